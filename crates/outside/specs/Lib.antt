@@ -1,0 +1,5 @@
+pub mod Bytes
+pub mod Faults
+pub mod Memory
+pub mod Putting
+pub mod Taking

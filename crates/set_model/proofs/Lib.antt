@@ -1,0 +1,5 @@
+pub mod ExplainedRuns
+pub mod HistoryLaws
+pub mod KeySets
+pub mod MachineRuns
+pub mod RisingKeys
