@@ -1,0 +1,10 @@
+pub mod Clauses
+pub mod AddsLemmas
+pub mod PlainRuns
+pub mod PlayedLists
+pub mod PrintedCases
+pub mod ReadingLemmas
+pub mod ReportLines
+pub mod Verdicts
+pub mod WritingLemmas
+pub mod Telling
