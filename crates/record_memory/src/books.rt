@@ -1,0 +1,174 @@
+// What is known of each caller, and what a pass knows.
+use crate::{Step, Word};
+use row_words::{Link, Ref};
+use set_model::{AllocatorName, Call, Update};
+use std::collections::LinkedList;
+
+/// The numbers that a table is made with.
+#[derive(Clone, Copy)]
+pub struct Key {
+    /// How many records it has, the roots among them.
+    pub records: u32,
+    /// How many roots it has. They are its first records.
+    pub roots: u32,
+    /// How many callers it has.
+    pub callers: u32,
+    /// The generation of a record that is handed out for the first time.
+    pub first: u32,
+    /// The allocator that its records are drawn by.
+    pub allocator: AllocatorName,
+}
+
+/// How a caller has a record.
+pub enum Standing {
+    /// It is handing it out, and so many of its words carry the new generation already.
+    Handing(u64),
+    /// It was handed out and isn't linked.
+    Own,
+    /// It was handed out, wasn't used, and waits in the spare chain.
+    Spare,
+    /// It was taken out and isn't retired.
+    TakenOut,
+    /// It was retired.
+    Limbo,
+    /// It may be handed out anew.
+    Free,
+    /// It was freed at the last generation.
+    Spent,
+}
+
+/// Where a record is.
+pub enum Place {
+    /// It was never handed out.
+    Undrawn,
+    /// It is a root.
+    Root,
+    /// It is reached from a root.
+    Linked,
+    /// It is in the chain of this shelf of the pool.
+    Shelved(u64),
+    /// This caller has it.
+    Of(u64, Standing),
+}
+
+/// What a caller knows of a record that it has.
+pub struct Share {
+    /// How it has it.
+    pub standing: Standing,
+    /// The record's generation. Of a record that is being handed out, the new one.
+    pub era: u64,
+    /// How many records were taken out before this one. It says nothing of a record that wasn't.
+    pub removed: u64,
+    /// The row's words. Of a record that was taken out and not handed out since, the first three.
+    pub words: LinkedList<u64>,
+}
+
+/// What a caller knows of the word that counts the records drawn.
+pub enum Drawing {
+    /// Nothing.
+    Unsure,
+    /// Its last step found it below the number of records.
+    Below,
+    /// It once added 1 to it and found it at the number of records or above.
+    Past,
+}
+
+/// A call that was answered Yes or No.
+pub struct Answered {
+    /// The call.
+    pub call: Call,
+    /// Whether the answer was Yes.
+    pub reply: bool,
+    /// Whether it stands in the history as an update, and not as a read.
+    pub decided: bool,
+    /// For an update its position from 1, for a read the number of updates before it.
+    pub position: u64,
+}
+
+/// A record that a caller holds at a place of its guard, with what it found in it.
+pub struct Hold {
+    /// The record.
+    pub target: Ref,
+    /// What it found in it.
+    pub note: Note,
+}
+
+/// What a caller found in a record that it holds, and what can't change while it holds it.
+pub struct Note {
+    /// Its key.
+    pub key: Option<u64>,
+    /// A link that no step changes any more, and the field that has it.
+    pub frozen: Option<(u64, Link)>,
+    /// How many records were taken out, and how many updates took effect, when it was reached.
+    pub reached_at: (u64, u64),
+}
+
+/// What is known of a caller's guard. Outside a guard nothing is held.
+pub struct Guard {
+    /// Whether the caller is between entering and leaving.
+    pub inside: bool,
+    /// How many records were taken out at the announcing step.
+    pub start_removals: u64,
+    /// How many updates took effect by then.
+    pub start_updates: u64,
+    /// What it holds, by place.
+    pub holds: LinkedList<Option<Hold>>,
+    /// What it has loaded a link to and not confirmed yet: the place that waits, and the record.
+    pub pending: Option<(u64, Ref)>,
+    /// The epoch at the announcing step.
+    pub epoch: u64,
+    /// The epochs that it read, the last first.
+    pub readings: LinkedList<u64>,
+    /// How many records were taken out when it last read the epoch.
+    pub reading_removals: u64,
+    /// How far a scan of announcements that goes on over several calls has come.
+    pub scan_place: u64,
+    /// The announcement words that the scan in progress has loaded, in order.
+    pub loaded: LinkedList<u64>,
+    /// How many births it answered, and how many records it retired.
+    pub births: u64,
+    /// How many records it retired.
+    pub retirements: u64,
+}
+
+/// All that is known of one caller.
+pub struct Book {
+    /// Its number, from 0.
+    pub caller: u64,
+    /// Its steps, the oldest first.
+    pub steps: LinkedList<Step>,
+    /// What it knows of each record that it has, by index.
+    pub mine: LinkedList<Option<Share>>,
+    /// What it knows of the word that counts the records drawn.
+    pub drawing: Drawing,
+    /// The link words that it has locked.
+    pub locks: LinkedList<Word>,
+    /// Whether it has the lock of the pool.
+    pub has_pool_lock: bool,
+    /// Its calls that were answered Yes or No, in order.
+    pub answered: LinkedList<Answered>,
+    /// Its guard.
+    pub guard: Guard,
+}
+
+/// What a pass knows: its own caller's book, the books of callers whose passes aren't split off
+/// yet or were joined into it, and beginnings of the two lists of the whole table.
+pub struct View {
+    /// The numbers that the table is made with.
+    pub key: Key,
+    /// Whether it is a caller's pass. Else it is a note from one pass to another, or a pass that was
+    /// joined into another one, and carries no book.
+    pub present: bool,
+    /// Whether there is no other pass yet.
+    pub alone: bool,
+    /// Its own caller's book.
+    pub own: Book,
+    /// The other books that it carries.
+    pub others: LinkedList<Book>,
+    /// The updates that its caller knows to come before whatever it does next.
+    pub front: LinkedList<Update>,
+    /// The most updates that a step of it has seen.
+    pub noted_updates: LinkedList<Update>,
+    /// The most records taken out that a step of it has seen, in order.
+    pub noted_removals: LinkedList<Ref>,
+}

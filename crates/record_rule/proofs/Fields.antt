@@ -1,0 +1,203 @@
+-- The owner's steps on the words of a record that it has.
+use Rattle.std.proofs.Common.{◌≡◌, ◌≢◌, ℕ, ◌+◌, ◌-◌, ◌<◌, ◌≤◌, List, [], map, length, get_or, take, set, length-set, Bool, true, false, cond, eqb, ltb, sym, refl, ap, ◌∙◌, subst, arith, ◌⊎◌, ⊎_elim, Some, get_or-set_same, get_or-set_other}
+use Rattle.std.proofs.lemmas.List.{map-set, drop-set-lt}
+use Rattle.std.proofs.lemmas.Bool.{eqb-true, eqb-false, lt-ltb, le-ltb, ne_eqb}
+use mathlib.Core.Logic.{dite}
+use native.Mathlib.Decide.{dec_le, ℕ_discrete}
+use mathlib.Core.Option.{some}
+use lib.ListN.{get_elem?}
+use Rattle.atomic_table.proofs.Lists.{at_set, at_map}
+use Rattle.set_model.specs.declared.names.AllocatorName.{AllocatorName}
+use Rattle.set_model.specs.declared.names.AllocatorName.TheVariants.{Bump, Once}
+use Rattle.record_memory.specs.declared.steps.Word.TheVariants.{Field}
+use Rattle.record_memory.specs.declared.books.Key.{Key}
+use Rattle.record_memory.specs.declared.books.Book.{Book}
+use Rattle.record_memory.specs.declared.books.Standing.{Standing}
+use Rattle.record_memory.specs.declared.books.Standing.TheVariants.{Handing, Own, Spare, TakenOut, Limbo, Free, Spent}
+use Rattle.record_memory.specs.declared.books.Place.{Place}
+use Rattle.record_memory.specs.declared.books.Place.TheVariants.{Undrawn, Root, Of}
+use Rattle.record_memory.specs.Memory.{Memory, put, row_at}
+use Rattle.record_memory.proofs.Stores.{take-set}
+use Rattle.row_words.specs.Packing.{own_in, number_in, IsPackedLink}
+use Rattle.record_rule.specs.Inputs.{hidden, out, shape_had, unlinked, removed, limbo, scheme_had}
+use Rattle.record_rule.specs.Records.{Record, IsSound, known, share, carried, carried_by}
+use Rattle.record_rule.specs.World.{IsLeftBy, IsLeft, overshoot, Places}
+use Rattle.record_rule.specs.Kinds.{MayStoreAs, standing_after}
+use Rattle.record_rule.proofs.Lists.{get_at, each_set, map_set_same}
+use Rattle.record_rule.proofs.Owned.{share_of, seen_by, unseen_by}
+use Rattle.record_rule.proofs.Quiet.{same_overshoot, books_after, past_before}
+
+-- the count of records drawn, and the cursors, say what they said
+pub left_same : (a : AllocatorName) (key : Key) (m m' : Memory) (i : ℕ) → m'.drawn ≡ m.drawn → m'.cursors ≡ m.cursors → IsLeftBy a key m i → IsLeftBy a key m' i
+left_same Bump key m m' i d c h = omega arith
+left_same Once key m m' i d c h = subst (λ (xs : List ℕ). IsLeftBy Once key record m { cursors = xs } i) (sym c) h
+
+-- the record after its owner has stored a word of it
+abbrev pub with_word : ℕ → Standing → Record → ℕ → ℕ → Record
+with_word c s r f value = record r { place = Of c s; row = set r.row f value }
+
+module _ (key : Key) where
+  -- what has to be so of a stored word, and of the standing afterwards
+  pub record Stores (s t : Standing) (r : Record) (f value : ℕ) : Type 0 where
+    pub below : f < 8
+    pub own : (g : ℕ) → g < 8 → g ≡ f → own_in value ≡ carried_by t r.era g
+    pub others : (g : ℕ) → g < 8 → g ≢ f → carried_by t r.era g ≡ carried_by s r.era g
+    pub link : f ≡ 1 → IsPackedLink value
+    pub unfinished : (n : ℕ) → t ≡ Handing n → n < 8
+
+  generations_after : (i c : ℕ) (s t : Standing) (r : Record) (f value : ℕ) → r.place ≡ Of c s → IsSound key i r → Stores s t r f value
+      → (g : ℕ) → g < 8 → Dec (g ≡ f) → own_in (get_or (set r.row f value) g 0) ≡ carried_by t r.era g
+  generations_after i c s t r f value at sound st g h (yes e) = ap own_in (ap (λ (k : ℕ). get_or (set r.row f value) k 0) e ∙ get_or-set_same r.row f value 0 (let l = sound.eight in omega arith)) ∙ st.own g h e
+  generations_after i c s t r f value at sound st g h (no ne) = ap own_in (get_or-set_other r.row f g value 0 ne) ∙ sound.generations g h ∙ ap (λ (p : Place). carried p r.era g) at ∙ sym (st.others g h ne)
+
+  chained_after : (r : Record) (f value : ℕ) → length r.row ≡ 8 → IsPackedLink (get_or r.row 1 0) → (f ≡ 1 → IsPackedLink value) → Dec (1 ≡ f) → IsPackedLink (get_or (set r.row f value) 1 0)
+  chained_after r f value eight was link (yes e) = subst IsPackedLink (sym (ap (λ (k : ℕ). get_or (set r.row f value) k 0) e ∙ get_or-set_same r.row f value 0 (omega arith))) (link (sym e))
+  chained_after r f value eight was link (no ne) = subst IsPackedLink (sym (get_or-set_other r.row f 1 value 0 ne)) was
+
+  sound_after : (i c : ℕ) (s t : Standing) (r : Record) (f value : ℕ) → r.place ≡ Of c s → IsSound key i r → Stores s t r f value → IsSound key i (with_word c t r f value)
+  sound_after i c s t r f value at sound st = record {
+    eight = length-set r.row f value ∙ sound.eight;
+    generations = λ g h. generations_after i c s t r f value at sound st g h (ℕ_discrete g f);
+    chained = chained_after r f value sound.eight sound.chained st.link (ℕ_discrete 1 f);
+    within = sound.within;
+    roots = λ h. let none : ⊥ = (let e : Of c s ≡ Root = sym at ∙ sound.roots h in cc) in absurd none;
+    no_root = λ e. let none : ⊥ = cc in absurd none;
+    unborn = λ e. let none : ⊥ = cc in absurd none;
+    blank = λ e. let none : ⊥ = cc in absurd none;
+    born = λ _. sound.born (λ e. let none : ⊥ = (let k : Of c s ≡ Undrawn = sym at ∙ e in cc) in none);
+    unfinished = λ d n e. st.unfinished n (let z : t ≡ Handing n = cc in z);
+    callers = λ d w e. sound.callers d s (at ∙ (let z : c ≡ d = cc in ap (λ (k : ℕ). Of k s) z));
+  }
+
+  -- after the owner's store of word f of record i, which lies at p
+  pub owner_places : (records : List Record) (books : List Book) (m : Memory) (c i f value : ℕ) (s t : Standing) (b own : Book) (r : Record) → Places key records books m → get_elem? books c ≡ some b
+      → get_elem? records (i - 1) ≡ some r → r.place ≡ Of c s → Stores s t r f value → own.caller ≡ b.caller → own.mine ≡ set b.mine (i - 1) (Some (share_of t (with_word c t r f value))) → overshoot own ≡ overshoot b
+      → Places key (set records (i - 1) (with_word c t r f value)) (set books c own) (put m (Field i f) value)
+  owner_places records books m c i f value s t b own r p at there is st caller mine weight =
+      let new : Record = with_word c t r f value in let k : ℕ = i - 1 in let book = p.books_fit c b at in let m' : Memory = put m (Field i f) value in
+      let row : row_at m.rows i ≡ r.row = ap (λ (rs : List (List ℕ)). get_or rs k []) (sym p.rows) ∙ get_at (map (λ (x : Record). x.row) records) k r.row [] (at_map (λ (x : Record). x.row) records k r there) in record {
+        many = length-set records k new ∙ p.many;
+        rows = map-set (λ (x : Record). x.row) records k new ∙ (λ z. set (p.rows z) k (set (sym row z) f value));
+        sound = each_set (IsSound key) records k new p.sound (sound_after k c s t r f value is (p.sound k r there) st);
+        left = λ j x e l. ⊎_elim (λ q. let none : ⊥ = (let u : r.place ≡ Undrawn = p.left k r there (subst (IsLeft key m) q.0 (left_same key.allocator key m' m j refl refl l)) in let o : Of c s ≡ Undrawn = sym is ∙ u in cc) in absurd none)
+            (λ q. p.left j x q.1 (left_same key.allocator key m' m j refl refl l)) (at_set records k j new x e);
+        undrawn = λ j x e u. left_same key.allocator key m m' j refl refl (⊎_elim (λ q. let none : ⊥ = (let o : Of c t ≡ Undrawn = ap (λ (y : Record). y.place) q.1 ∙ u in cc) in absurd none) (λ q. p.undrawn j x q.1 u) (at_set records k j new x e));
+        drawn = subst (λ (z : ℕ). m.drawn ≤ key.records + z) (sym (same_overshoot books c b own at weight)) p.drawn;
+        blank = p.blank;
+        callers = length-set books c own ∙ p.callers;
+        books_fit = books_after key m m' records (set records k new) books c own (λ h. h)
+            (λ d ne. map_set_same (share d) records k r new there (unseen_by c d t new refl ne ∙ sym (unseen_by c d s r is ne)))
+            record {
+              number = caller ∙ book.number;
+              mine = mine ∙ ap (λ xs. set xs k (Some (share_of t new))) book.mine ∙ ap (λ h. set (map (share c) records) k h) (sym (seen_by c t new refl)) ∙ sym (map-set (share c) records k new);
+              past = λ h. book.past (past_before b.drawing own.drawing weight h);
+            } p.books_fit;
+      }
+
+cond_below : (g n a b : ℕ) → g < n → cond (ltb g n) a b ≡ a
+cond_below g n a b h = ap (λ (t : Bool). cond t a b) (lt-ltb g n h)
+
+cond_above : (g n a b : ℕ) → n ≤ g → cond (ltb g n) a b ≡ b
+cond_above g n a b h = ap (λ (t : Bool). cond t a b) (le-ltb g n h)
+
+module _ (key : Key) (r : Record) (f value : ℕ) (below : f < 8) (own : own_in value ≡ r.era) (link : f ≡ 1 → IsPackedLink value) where
+  -- a step that leaves the standing, where all eight words carry the generation
+  stores_whole : (s : Standing) → ((g : ℕ) → carried_by s r.era g ≡ r.era) → ((n : ℕ) → s ≡ Handing n → ⊥) → Stores key s s r f value
+  stores_whole s whole none = record {
+    below = below;
+    own = λ g h e. own ∙ sym (whole g);
+    others = λ g h ne. refl;
+    link = link;
+    unfinished = λ n e. absurd (none n e);
+  }
+
+  stores_handing : (n : ℕ) (t : Bool) → eqb n 7 ≡ t → f ≡ n → Stores key (Handing n) (cond t Own (Handing (n + 1))) r f value
+  stores_handing n true is e = let seven = eqb-true n 7 is in record {
+    below = below;
+    own = λ g h _. own;
+    others = λ g h ne. sym (cond_below g n r.era (r.era - 1) (omega arith));
+    link = link;
+    unfinished = λ k q. let none : ⊥ = cc in absurd none;
+  }
+  stores_handing n false is e = let not_seven = eqb-false n 7 is in record {
+    below = below;
+    own = λ g h q. own ∙ sym (cond_below g (n + 1) r.era (r.era - 1) (omega arith));
+    others = λ g h ne. dite (dec_le n g) (λ le. cond_above g (n + 1) r.era (r.era - 1) (omega arith) ∙ sym (cond_above g n r.era (r.era - 1) le))
+        (λ lt. cond_below g (n + 1) r.era (r.era - 1) (omega arith) ∙ sym (cond_below g n r.era (r.era - 1) (omega arith)));
+    link = link;
+    unfinished = λ k q. let z : n + 1 ≡ k = cc in omega arith;
+  }
+
+  pub stores_as : (s : Standing) → MayStoreAs s f → Stores key s (standing_after s) r f value
+  stores_as (Handing n) h = stores_handing n (eqb n 7) refl h
+  stores_as Own h = stores_whole Own (λ g. refl) (λ n e. cc)
+  stores_as Spare h = stores_whole Spare (λ g. refl) (λ n e. cc)
+  stores_as TakenOut h = stores_whole TakenOut (λ g. refl) (λ n e. cc)
+  stores_as Limbo h = stores_whole Limbo (λ g. refl) (λ n e. cc)
+  stores_as Free h = stores_whole Free (λ g. refl) (λ n e. cc)
+  stores_as Spent h = absurd h
+
+-- what the caller knows of the record afterwards
+known_whole : (f value : ℕ) (row : List ℕ) → f < 3 → take 3 (set row f value) ≡ set (take 3 row) f value
+known_whole f value row h = take-set 3 f value row h
+
+known_handing : (n : ℕ) (t : Bool) (f value : ℕ) (row : List ℕ) → known (cond t Own (Handing (n + 1))) (set row f value) ≡ set row f value
+known_handing n true f value row = refl
+known_handing n false f value row = refl
+
+pub known_after : (s : Standing) (f value : ℕ) (row : List ℕ) → MayStoreAs s f → known (standing_after s) (set row f value) ≡ set (known s row) f value
+known_after (Handing n) f value row h = known_handing n (eqb n 7) f value row
+known_after Own f value row h = refl
+known_after Spare f value row h = refl
+known_after TakenOut f value row h = known_whole f value row (omega arith)
+known_after Limbo f value row h = known_whole f value row (omega arith)
+known_after Free f value row h = known_whole f value row (omega arith)
+known_after Spent f value row h = absurd h
+
+-- the set's facts do not see the step
+hidden_handing : (n : ℕ) (t : Bool) (r : Record) → shape_had (cond t Own (Handing (n + 1))) r ≡ hidden
+hidden_handing n true r = refl
+hidden_handing n false r = refl
+
+pub shape_unmoved : (c : ℕ) (s : Standing) (r : Record) (f value : ℕ) → MayStoreAs s f → shape_had (standing_after s) (with_word c (standing_after s) r f value) ≡ shape_had s r
+shape_unmoved c (Handing n) r f value h = hidden_handing n (eqb n 7) (with_word c (cond (eqb n 7) Own (Handing (n + 1))) r f value)
+shape_unmoved c Own r f value h = refl
+shape_unmoved c Spare r f value h = refl
+shape_unmoved c TakenOut r f value h = ap (λ (b : List ℕ). out r.era b r.marked r.removed) (drop-set-lt 3 r.row f value (omega arith))
+shape_unmoved c Limbo r f value h = ap (λ (b : List ℕ). out r.era b r.marked r.removed) (drop-set-lt 3 r.row f value (omega arith))
+shape_unmoved c Free r f value h = refl
+shape_unmoved c Spent r f value h = refl
+
+-- nor do the reclaimer's, but for the step that ends a handing out
+abbrev pub Ends : Standing → Type 0
+Ends (Handing n) = n ≡ 7
+Ends Own = ⊥
+Ends Spare = ⊥
+Ends TakenOut = ⊥
+Ends Limbo = ⊥
+Ends Free = ⊥
+Ends Spent = ⊥
+
+pub ends : (s : Standing) → Dec (Ends s)
+ends (Handing n) = ℕ_discrete n 7
+ends Own = no (λ e. e)
+ends Spare = no (λ e. e)
+ends TakenOut = no (λ e. e)
+ends Limbo = no (λ e. e)
+ends Free = no (λ e. e)
+ends Spent = no (λ e. e)
+
+word_stays : (r : Record) (g f value : ℕ) → g ≢ f → number_in (get_or (set r.row f value) g 0) ≡ number_in (get_or r.row g 0)
+word_stays r g f value ne = ap number_in (get_or-set_other r.row f g value 0 ne)
+
+own_field : (f : ℕ) → (f ≡ 1) ⊎ ((3 ≤ f) × (f < 8)) → 0 ≢ f
+own_field f h e = ⊎_elim (λ q. omega arith) (λ q. omega arith) h
+
+pub scheme_unmoved : (c : ℕ) (s : Standing) (r : Record) (f value : ℕ) → MayStoreAs s f → ¬ Ends s → scheme_had c (standing_after s) (with_word c (standing_after s) r f value) ≡ scheme_had c s r
+scheme_unmoved c (Handing n) r f value h more = ap (λ (t : Bool). scheme_had c (cond t Own (Handing (n + 1))) (with_word c (cond t Own (Handing (n + 1))) r f value)) (ne_eqb n 7 more)
+scheme_unmoved c Own r f value h more = ap (unlinked c r.era) (word_stays r 0 f value (own_field f h))
+scheme_unmoved c Spare r f value h more = ap (unlinked c r.era) (word_stays r 0 f value (λ e. omega arith))
+scheme_unmoved c TakenOut r f value h more = ap (λ (b : ℕ). removed c r.era b r.removed) (word_stays r 0 f value (λ e. omega arith))
+scheme_unmoved c Limbo r f value h more = λ k. limbo c r.era (word_stays r 0 f value (λ e. omega arith) k) r.removed (word_stays r 2 f value (λ e. omega arith) k) r.retired
+scheme_unmoved c Free r f value h more = refl
+scheme_unmoved c Spent r f value h more = refl

@@ -1,0 +1,17 @@
+pub mod Lists
+pub mod Rebuilt
+pub mod Quiet
+pub mod Owned
+pub mod Loads
+pub mod Draws
+pub mod Fields
+pub mod Owners
+pub mod Opens
+pub mod Seats
+pub mod Joins
+pub mod Meetings
+pub mod Permitted
+pub mod HandingOut
+pub mod Asides
+pub mod ChainRows
+pub mod Frames

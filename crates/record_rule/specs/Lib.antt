@@ -1,0 +1,11 @@
+pub mod Records
+pub mod Inputs
+pub mod World
+pub mod Opening
+pub mod Kinds
+pub mod Laws
+pub mod Splits
+pub mod Meetings
+pub mod HandingOut
+pub mod Asides
+pub mod ChainRows

@@ -1,0 +1,44 @@
+-- What two passes know after one was split off, and what a pass knows that another was joined into.
+use Rattle.std.specs.Prelude.{List, [], ◌∷◌, ◌++◌, length, nat_lt, if◌then◌else◌, false}
+use Rattle.set_model.specs.declared.names.AllocatorName.TheVariants.{Bump}
+use Rattle.record_memory.specs.declared.books.Key.{Key}
+use Rattle.record_memory.specs.declared.books.View.{View}
+use Rattle.record_memory.specs.declared.books.Book.{Book}
+use Rattle.record_rule.specs.World.{carries}
+use Rattle.record_rule.specs.Opening.{first_book}
+
+abbrev pub left_of : View → List Book → View
+left_of v [] = v
+left_of v (b ∷ bs) = record v { others = bs; alone = false }
+
+abbrev pub right_of : View → List Book → View
+right_of v [] = v
+right_of v (b ∷ bs) = record v { own = b; others = []; alone = false }
+
+-- the pass keeps all but the first book that is not its own caller's
+abbrev pub split_left : View → View
+split_left v = left_of v v.others
+
+-- a new pass has that book
+abbrev pub split_right : View → View
+split_right v = right_of v v.others
+
+-- of two beginnings of one list, the one that has more
+abbrev pub longer : {A : Type 0} → List A → List A → List A
+longer xs ys = if nat_lt (length xs) (length ys) then ys else xs
+
+-- the pass carries the other's books behind its own, and has seen what either had
+abbrev pub joined : View → View → View
+joined v w = record v {
+  others = v.others ++ carries w;
+  front = longer v.front w.front;
+  noted_updates = longer v.noted_updates w.noted_updates;
+  noted_removals = longer v.noted_removals w.noted_removals;
+}
+
+-- what is left of a pass that was joined into another
+abbrev pub no_key : Key
+no_key = record { records = 0; roots = 0; callers = 0; first = 0; allocator = Bump }
+
+abbrev pub spent : View
+spent = record { key = no_key; present = false; alone = false; own = first_book no_key 0; others = []; front = []; noted_updates = []; noted_removals = [] }

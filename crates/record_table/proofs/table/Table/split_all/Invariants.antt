@@ -1,0 +1,14 @@
+use Rattle.std.proofs.Common.{◌≡◌, ◌+◌, length}
+use Rattle.record_table.specs.Handles.{key_of, view, IsPassOf}
+use Rattle.record_table.specs.Made.{IsFreshWith, AreFreshFrom}
+use Rattle.record_table.proofs.Made.{books_from}
+use Rattle.record_table.proofs.table.Table.split_all.Given as goal
+
+-- the passes of the callers below this one are there
+abbrev pub invariant-loop-caller : goal.invariant-loop-caller
+invariant-loop-caller g l = record {
+  is : IsPassOf l.self l.first;
+  rest : IsFreshWith (key_of l.self) 0 (books_from (key_of l.self) l.caller) (view l.first);
+  made : AreFreshFrom l.self 1 l.passes.items;
+  many : 1 + length l.passes.items ≡ l.caller;
+}

@@ -1,0 +1,48 @@
+-- What clauses say of a table and of its passes.
+use Rattle.std.specs.Prelude.{◌≡◌, ℕ, List, [], true, refl}
+use Rattle.std.proofs.Common.{◌∙◌}
+use Rattle.atomic_table.specs.Table.{State}
+use Rattle.record_memory.specs.declared.books.Key.{Key}
+use Rattle.record_memory.specs.declared.books.View.{View}
+use Rattle.record_rule.specs.World.{Rule}
+use Rattle.record_table.specs.declared.table.Table.{Table}
+use Rattle.record_table.specs.declared.passes.Pass.{Pass}
+
+-- the numbers that the table was made with
+abbrev pub key_of : {S R : Type 0} → Table S R → Key
+key_of t = t.board.shared.key
+
+-- the rule that holds of it between any two steps
+abbrev pub rule : {S R : Type 0} → Table S R → State (Unit {0}) View → Type 0
+rule t = Rule (λ _. Unit {0}) (λ _. Unit {0}) (key_of t)
+
+module _ {S R : Type 0} where
+  -- what the pass knows
+  abbrev pub view : Pass S R → View
+  view p = p.seat.me.0
+
+  -- its number among all passes that the table ever had
+  abbrev pub seat_of : Pass S R → ℕ
+  seat_of p = p.seat.id
+
+  -- it is a pass of this table
+  pub record IsPassOf (t : Table S R) (p : Pass S R) : Type 0 where
+    pub table : p.seat.table_id ≡ t.board.shared.table_id
+    pub key : (view p).key ≡ key_of t
+    pub present : (view p).present ≡ true
+
+  -- it is the pass of the same caller of the same table, and has absorbed no other in between
+  pub record IsSamePass (old new : Pass S R) : Type 0 where
+    pub table : new.seat.table_id ≡ old.seat.table_id
+    pub seat : new.seat.id ≡ old.seat.id
+    pub caller : (view new).own.caller ≡ (view old).own.caller
+    pub key : (view new).key ≡ (view old).key
+    pub present : (view new).present ≡ (view old).present
+    pub others : (view new).others ≡ (view old).others
+
+  -- which it is of itself, and over two pieces
+  abbrev pub same_start : (p : Pass S R) → IsSamePass p p
+  same_start p = record { table = refl; seat = refl; caller = refl; key = refl; present = refl; others = refl }
+
+  abbrev pub same_then : (p q r : Pass S R) → IsSamePass p q → IsSamePass q r → IsSamePass p r
+  same_then p q r a b = record { table = b.table ∙ a.table; seat = b.seat ∙ a.seat; caller = b.caller ∙ a.caller; key = b.key ∙ a.key; present = b.present ∙ a.present; others = b.others ∙ a.others }

@@ -1,0 +1,5 @@
+pub mod Handles
+pub mod Meeting
+pub mod Made
+pub mod Closing
+pub mod Places

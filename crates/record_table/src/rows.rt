@@ -1,0 +1,61 @@
+// A caller's rows, for chains through them.
+ghost use Rattle.std.specs.Prelude.{◌≡◌, refl};
+ghost use Rattle.std.proofs.Common.{◌∙◌};
+ghost use Rattle.record_rule.proofs.ChainRows.{still_start, still_then};
+ghost use Rattle.record_rule.specs.ChainRows.{row_in, OwnsChain, IsStill};
+ghost use Rattle.record_table.specs.Handles.{view, IsPassOf, IsSamePass, same_start, same_then};
+
+use crate::passes::Pass;
+use crate::table::Table;
+use record_rule::{Cover, Shape};
+use row_words::{ChainWords, Link, Ref, link_of, number_of, pack_link};
+
+// The words of a row that chains need.
+const BIRTH: u32 = 0;
+
+const CHAIN: u32 = 1;
+
+const STAMP: u32 = 2;
+
+/// The rows of one table as one caller sees them. It owns the chain words of the records that are
+/// own, spare, in limbo or free of it. Each call is one atomic step.
+pub struct Rows<'a, S: Shape, R: Cover> {
+    /// The table.
+    pub table: &'a Table<S, R>,
+    /// The caller's pass.
+    pub pass: &'a mut Pass<S, R>,
+}
+
+impl<'a, S: Shape, R: Cover> ChainWords for Rows<'a, S, R> {
+    ghost owns = { λ w r. IsPassOf w.table.now w.pass.now × OwnsChain (view w.pass.now) r };
+
+    ghost row_of = { λ w r. row_in (view w.pass.now) r };
+
+    ghost same = { λ v w. (w.table ≡ v.table) × (w.pass.ghost_name ≡ v.pass.ghost_name) × IsSamePass v.pass.now w.pass.now × IsStill (view v.pass.now) (view w.pass.now) };
+
+    fn load_chain(&mut self, r: Ref) -> Option<Ref> {
+        let found = self.table.load_field(self.pass, r.index, CHAIN);
+        link_of(found).target
+    }
+
+    fn store_chain(&mut self, r: Ref, next: Option<Ref>) {
+        let link = Link {
+            flags: 0,
+            target: next,
+        };
+        let value = pack_link(r.generation.get(), link);
+        self.table.store_field(self.pass, r.index, CHAIN, value);
+    }
+
+    fn load_birth(&mut self, r: Ref) -> u64 {
+        number_of(self.table.load_field(self.pass, r.index, BIRTH))
+    }
+
+    fn load_stamp(&mut self, r: Ref) -> u64 {
+        number_of(self.table.load_field(self.pass, r.index, STAMP))
+    }
+
+    ghost same_start = { λ w. (refl, refl, same_start w.pass.now, still_start (view w.pass.now)) };
+
+    ghost same_then = { λ u v w a b. (b.0 ∙ a.0, b.1 ∙ a.1, same_then u.pass.now v.pass.now w.pass.now a.2 b.2, still_then (view u.pass.now) (view v.pass.now) (view w.pass.now) a.3 b.3) };
+}

@@ -1,0 +1,94 @@
+use crate::{Cover, PrepareError, Scheme, Shape, prepare};
+use row_words::Generation;
+use set_model::AllocatorName;
+use std::test::Fail;
+
+// A set and a reclaimer of which nothing is known.
+struct AnySet;
+
+impl Shape for AnySet {}
+
+struct AnyReclaimer;
+
+impl Cover for AnyReclaimer {}
+
+impl Scheme for AnyReclaimer {}
+
+#[test]
+fn refuses_bad_numbers(rt: HostRuntime) -> Result<(), Fail> {
+    let first = Generation::new(1).ok_or("a generation")?;
+    for (records, callers, want) in [
+        (0, 1, PrepareError::Records),
+        (1_048_576, 1, PrepareError::Records),
+        (0, 0, PrepareError::Records),
+        (1, 0, PrepareError::Callers),
+        (1, 17, PrepareError::Callers),
+        (1_048_575, 17, PrepareError::Callers),
+    ] {
+        let made = prepare::<AnySet, AnyReclaimer>(
+            rt.alloc(),
+            records,
+            callers,
+            first,
+            1,
+            AllocatorName::Bump,
+        );
+        assert!(rt;
+            made.err() == Some(want),
+            "{records} records, {callers} callers"
+        );
+    }
+    Ok(())
+}
+
+#[test]
+fn closes_with_the_words_it_was_made_with(rt: HostRuntime) -> Result<(), Fail> {
+    let first = Generation::new(5).ok_or("a generation")?;
+    let (table, passes) = prepare::<AnySet, AnyReclaimer>(
+        rt.alloc(),
+        3,
+        2,
+        first,
+        1,
+        AllocatorName::Bump,
+    )?;
+    let closed = table.close(passes);
+    let own = 1u64 << 44;
+    let words = closed.words();
+    assert_eq!(rt; words.len(), 54);
+    // One root counts as drawn, the epoch is 1, and all other control words are 0.
+    assert_eq!(rt; words[0], 1);
+    assert_eq!(rt; words[1], 1);
+    for i in 2..30 {
+        assert_eq!(rt; words[i], 0, "control word {i}");
+    }
+    // The root has generation 5 and kind 1, and the others the generation before.
+    for i in 30..54 {
+        let root = if i == 34 {
+            5 * own + (1 << 40)
+        } else {
+            5 * own
+        };
+        assert_eq!(rt; words[i], if i < 38 { root } else { 4 * own }, "word {i}");
+    }
+    Ok(())
+}
+
+#[test]
+fn closes_with_sixteen_callers(rt: HostRuntime) -> Result<(), Fail> {
+    let first = Generation::new(1).ok_or("a generation")?;
+    let (table, passes) = prepare::<AnySet, AnyReclaimer>(
+        rt.alloc(),
+        2,
+        16,
+        first,
+        2,
+        AllocatorName::Once,
+    )?;
+    assert_eq!(rt; passes.len(), 16);
+    assert_eq!(rt; passes[15].caller(), 15);
+    let closed = table.close(passes);
+    assert_eq!(rt; closed.callers(), 16);
+    assert_eq!(rt; closed.words().len(), 116);
+    Ok(())
+}
