@@ -1,0 +1,79 @@
+//! Draws and hands out every record of a table, sets each aside, closes the table, and prints how
+//! many records were drawn. The number of records is the one argument.
+#![tactic(auto)]
+
+ghost use Rattle.std.specs.Prelude.{◌≡◌};
+ghost use Rattle.record_table.specs.Handles.{key_of, view, IsPassOf, IsSamePass};
+ghost use Rattle.set_model.specs.declared.names.AllocatorName.TheVariants.{Bump as BumpName};
+
+use alloc_api::{Allocator, NoRecord};
+use alloc_bump::Bump;
+use record_table::{PrepareError, prepare};
+use row_words::{Generation, Ref};
+use set_model::AllocatorName;
+use std::alloc::Global;
+use std::env;
+use std::process::ExitCode;
+use table_tests::{AnyPass, AnyReclaimer, AnySet, AnyTable, take_last};
+
+// Draws a record, hands it out and sets it aside.
+fn draw_aside(table: &AnyTable, pass: &mut AnyPass) -> Result<Ref, NoRecord>
+    requires pass { IsPassOf table.now pass.old }
+    requires allocator { (key_of table.now).allocator ≡ BumpName }
+    ensures pass { IsSamePass pass.old pass.new }
+{
+    let r = Bump::draw(table, pass)?;
+    let own = table.hand_out(pass, r, 0);
+    Ok(table.set_aside(pass, own, None))
+}
+
+// Does so with every record.
+fn draw_all(table: &AnyTable, pass: &mut AnyPass)
+    requires pass { IsPassOf table.now pass.old }
+    requires allocator { (key_of table.now).allocator ≡ BumpName }
+    ensures pass { IsSamePass pass.old pass.new }
+{
+    'records: for _ in 0..table.records() {
+        if draw_aside(table, pass).is_err() {
+            return;
+        }
+    }
+}
+
+// The number of records drawn, by the words of the closed table.
+fn drawn_of(alloc: Global, records: u32, first: Generation) -> Result<u64, PrepareError> {
+    let (table, mut passes) = prepare::<AnySet, AnyReclaimer>(
+        alloc,
+        records,
+        1,
+        first,
+        1,
+        AllocatorName::Bump,
+    )?;
+    let Some(mut pass) = take_last(&table, &mut passes) else {
+        return Ok(0);
+    };
+    draw_all(&table, &mut pass);
+    let closed = table.close_last(pass);
+    Ok(closed.words().first().copied().unwrap_or(0))
+}
+
+fn records_wanted(rt: &(impl std::rt::Env + AllocGlobal)) -> Option<u32> {
+    env::args(rt).ok()?.nth(1)?.as_str().parse::<u32>().ok()
+}
+
+fn main(rt: HostRuntime) -> ExitCode {
+    let Some(records) = records_wanted(&rt) else {
+        return ExitCode::from(2);
+    };
+    let Some(first) = Generation::new(1) else {
+        return ExitCode::from(2);
+    };
+    match drawn_of(rt.alloc(), records, first) {
+        Ok(drawn) => match println!(rt; "drawn {drawn}") {
+            Ok(()) => ExitCode::from(0),
+            Err(_) => ExitCode::from(7),
+        },
+        Err(_) => ExitCode::from(8),
+    }
+}

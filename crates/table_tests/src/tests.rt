@@ -1,0 +1,87 @@
+ghost use Rattle.std.specs.Prelude.{◌≡◌, IfOk, OnOk};
+ghost use Rattle.set_model.specs.declared.names.AllocatorName.TheVariants.{Bump as BumpName};
+ghost use Rattle.record_table.specs.Handles.{key_of, view, IsPassOf, IsSamePass};
+
+use crate::closing::{AnyPass, AnyReclaimer, AnySet, AnyTable, take_last};
+use alloc_api::{Allocator, NoRecord};
+use alloc_bump::Bump;
+use record_table::prepare;
+use row_words::{Generation, Ref};
+use set_model::AllocatorName;
+use std::test::Fail;
+
+// The birth that records are handed out with.
+const BIRTH: u64 = 9;
+
+// Draws a record, hands it out and sets it aside before `next`.
+fn draw_aside(table: &AnyTable, pass: &mut AnyPass, next: Option<Ref>) -> Result<Ref, NoRecord>
+    requires pass { IsPassOf table.now pass.old }
+    requires allocator { (key_of table.now).allocator ≡ BumpName }
+    ensures pass { IsSamePass pass.old pass.new }
+{
+    let r = Bump::draw(table, pass)?;
+    let own = table.hand_out(pass, r, BIRTH);
+    Ok(table.set_aside(pass, own, next))
+}
+
+#[test]
+fn sets_every_record_aside(rt: HostRuntime) -> Result<(), Fail> {
+    let first = Generation::new(7).ok_or("a generation")?;
+    let (table, mut passes) = prepare::<AnySet, AnyReclaimer>(
+        rt.alloc(),
+        4,
+        1,
+        first,
+        2,
+        AllocatorName::Bump,
+    )?;
+    let mut pass = take_last(&table, &mut passes).ok_or("a pass")?;
+    let a = draw_aside(&table, &mut pass, None);
+    let b = draw_aside(&table, &mut pass, a.ok());
+    let none = draw_aside(&table, &mut pass, None);
+    assert_eq!(rt; a, Ok(Ref::new(3, first)));
+    assert_eq!(rt; b, Ok(Ref::new(4, first)));
+    assert_eq!(rt; none, Err(NoRecord { found: 4 }));
+    let closed = table.close_last(pass);
+    let words = closed.words();
+    let own = 7u64 << 44;
+    // Nothing was added at the call that found no record.
+    assert_eq!(rt; words[0], 4);
+    // The third record's chain word ends the chain, and the fourth's leads to the third.
+    assert_eq!(rt; words[25 + 16], own + BIRTH);
+    assert_eq!(rt; words[25 + 17], own);
+    assert_eq!(rt; words[25 + 18], own);
+    assert_eq!(rt; words[25 + 24], own + BIRTH);
+    assert_eq!(rt; words[25 + 25], own + (7 << 20) + 3);
+    Ok(())
+}
+
+#[test]
+fn two_callers_draw_in_turn(rt: HostRuntime) -> Result<(), Fail> {
+    let first = Generation::new(1).ok_or("a generation")?;
+    let (table, mut passes) = prepare::<AnySet, AnyReclaimer>(
+        rt.alloc(),
+        4,
+        2,
+        first,
+        1,
+        AllocatorName::Bump,
+    )?;
+    let mut second = take_last(&table, &mut passes).ok_or("a pass")?;
+    let mut pass = take_last(&table, &mut passes).ok_or("a pass")?;
+    let a = draw_aside(&table, &mut pass, None);
+    let b = draw_aside(&table, &mut second, None);
+    let c = draw_aside(&table, &mut pass, a.ok());
+    let d = draw_aside(&table, &mut second, b.ok());
+    let e = draw_aside(&table, &mut pass, None);
+    assert_eq!(rt; a, Ok(Ref::new(2, first)));
+    assert_eq!(rt; b, Ok(Ref::new(3, first)));
+    assert_eq!(rt; c, Ok(Ref::new(4, first)));
+    assert_eq!(rt; d, Err(NoRecord { found: 4 }));
+    assert_eq!(rt; e, Err(NoRecord { found: 4 }));
+    table.absorb(&mut pass, second);
+    let closed = table.close_last(pass);
+    assert_eq!(rt; closed.words()[0], 4);
+    assert_eq!(rt; closed.callers(), 2);
+    Ok(())
+}
