@@ -1,7 +1,10 @@
-//! Tests of the table together with the crates above it: drawing and setting aside, callers in several
-//! threads, meetings and pools. What they share stands in `closing`, for measurements, too.
+//! Tests of the table together with the crates above it: drawing and setting aside, chains through
+//! its rows, callers in several threads, meetings and pools. What they share stands in `closing`, for
+//! measurements, too.
 #![tactic(auto)]
 
+#[cfg(test)]
+mod chains;
 mod closing;
 
 pub use closing::{AnyPass, AnyReclaimer, AnySet, AnyTable, take_last};

@@ -1,0 +1,60 @@
+ghost use Rattle.std.specs.Prelude.{◌≡◌, Some};
+ghost use Rattle.record_rule.specs.ChainRows.{OwnsChain};
+ghost use Rattle.record_table.specs.Handles.{key_of, view, IsPassOf, IsSamePass};
+ghost use Rattle.set_model.specs.declared.names.AllocatorName.TheVariants.{Bump as BumpName};
+
+use crate::closing::{AnyPass, AnyReclaimer, AnySet, AnyTable, take_last};
+use alloc_api::{Allocator, NoRecord};
+use alloc_bump::Bump;
+use limbo_bags::{pop, push};
+use record_table::{Rows, prepare};
+use row_words::{Chain, Generation, Ref};
+use set_model::AllocatorName;
+use std::test::Fail;
+
+// Puts a record into an empty chain through the rows, and takes it off again.
+fn push_and_pop(table: &AnyTable, pass: &mut AnyPass, r: Ref) -> Option<Ref>
+    requires pass { IsPassOf table.now pass.old }
+    requires owned { OwnsChain (view pass.old) r }
+    ensures same { IsSamePass pass.old pass.new }
+    ensures record { result ≡ Some r }
+{
+    let mut chain = Chain::new();
+    let mut rows = Rows { table, pass };
+    push(&mut rows, &mut chain, r);
+    let popped = pop(&mut rows, &mut chain);
+    let Rows { table: _, pass: _ } = rows;
+    popped
+}
+
+// Draws a record, sets it aside, puts it into a chain and takes it off again.
+fn chained(table: &AnyTable, pass: &mut AnyPass) -> Result<Option<Ref>, NoRecord>
+    requires pass { IsPassOf table.now pass.old }
+    requires allocator { (key_of table.now).allocator ≡ BumpName }
+    ensures pass { IsSamePass pass.old pass.new }
+{
+    let drawn = Bump::draw(table, pass)?;
+    let own = table.hand_out(pass, drawn, 0);
+    let r = table.set_aside(pass, own, None);
+    let _index = r.index;
+    Ok(push_and_pop(table, pass, r))
+}
+
+#[test]
+fn a_chain_goes_through_the_rows(rt: HostRuntime) -> Result<(), Fail> {
+    let first = Generation::new(1).ok_or("a generation")?;
+    let (table, mut passes) = prepare::<AnySet, AnyReclaimer>(
+        rt.alloc(),
+        2,
+        1,
+        first,
+        1,
+        AllocatorName::Bump,
+    )?;
+    let mut pass = take_last(&table, &mut passes).ok_or("a pass")?;
+    assert_eq!(rt; chained(&table, &mut pass), Ok(Some(Ref::new(2, first))));
+    assert_eq!(rt; chained(&table, &mut pass), Err(NoRecord { found: 2 }));
+    let closed = table.close_last(pass);
+    assert_eq!(rt; closed.words()[0], 2);
+    Ok(())
+}
