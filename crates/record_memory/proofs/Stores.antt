@@ -1,10 +1,10 @@
 -- What a load from each kind of word gives and what a store to it does, in the reading of the flat words. The one place where it matters where a word lies.
-use Rattle.std.proofs.Common.{◌≡◌, ℕ, zero, suc, ◌+◌, ◌-◌, ◌*◌, ◌/◌, ◌%◌, ◌<◌, ◌≤◌, ◌≢◌, ◌⊎◌, inl, inr, List, [], ◌∷◌, length, get_or, take, drop, set, sym, refl, ap, ◌∙◌, subst, arith, get_or-set_other, get_or-set_same, length-drop, Bool, true, false, cond, eqb, ltb}
+use Rattle.std.proofs.Common.{◌≡◌, ℕ, zero, suc, ◌+◌, ◌-◌, ◌*◌, ◌/◌, ◌%◌, ◌<◌, ◌≤◌, ◌≢◌, List, [], ◌∷◌, length, get_or, take, drop, set, sym, refl, ap, ◌∙◌, arith, get_or-set_other, get_or-set_same, Bool, true, false, cond, eqb, ltb}
 use Rattle.std.proofs.lemmas.Bool.{eqb-true, eqb-false, ltb-true, ltb-false}
-use Rattle.std.proofs.lemmas.List.{drop-set-lt, drop-set-add, take-set-le, get_or-take, get_or-drop, set_past}
+use Rattle.std.proofs.lemmas.List.{drop-set-lt, drop-set-add, take-set-le, get_or-take, get_or-drop}
 use Rattle.record_memory.specs.declared.steps.Word.{Word}
 use Rattle.record_memory.specs.declared.steps.Word.TheVariants.{Drawn, Epoch, Lock, Blank, Shelf, Announced, Cursor, Field}
-use Rattle.record_memory.specs.Memory.{Memory, stretch, rows_in, address, word_at, controls, size, memory, IsWord, row_at, fetch, put}
+use Rattle.record_memory.specs.Memory.{Memory, stretch, rows_in, address, word_at, size, memory, IsWord, fetch, put}
 
 -- a store before a stretch, behind it and in it
 stretch_before : (start count i v : ℕ) (ws : List ℕ) → i < start → stretch start count (set ws i v) ≡ stretch start count ws
@@ -16,7 +16,7 @@ take-set (suc n) i v [] h = refl
 take-set (suc n) zero v (x ∷ xs) h = refl
 take-set (suc n) (suc i) v (x ∷ xs) h = ap (λ (r : List ℕ). x ∷ r) (take-set n i v xs (omega arith))
 
-drop-set_from : (start i v : ℕ) (ws : List ℕ) → start ≤ i → drop start (set ws i v) ≡ set (drop start ws) (i - start) v
+pub drop-set_from : (start i v : ℕ) (ws : List ℕ) → start ≤ i → drop start (set ws i v) ≡ set (drop start ws) (i - start) v
 drop-set_from start i v ws h = let e : i ≡ start + (i - start) = omega arith in ap (λ (k : ℕ). drop start (set ws k v)) e ∙ drop-set-add start ws (i - start) v
 
 stretch_behind : (start count i v : ℕ) (ws : List ℕ) → start + count ≤ i → stretch start count (set ws i v) ≡ stretch start count ws

@@ -1,6 +1,6 @@
 // What is known of each caller, and what a pass knows.
 use crate::{Step, Word};
-use row_words::{Link, Ref};
+use row_words::Ref;
 use set_model::{AllocatorName, Call, Update};
 use std::collections::LinkedList;
 
@@ -81,38 +81,30 @@ pub struct Answered {
     pub reply: bool,
     /// Whether it stands in the history as an update, and not as a read.
     pub decided: bool,
-    /// For an update its position from 1, for a read the number of updates before it.
+    /// The number of updates before its place.
     pub position: u64,
 }
 
-/// A record that a caller holds at a place of its guard, with what it found in it.
-pub struct Hold {
-    /// The record.
-    pub target: Ref,
-    /// What it found in it.
-    pub note: Note,
-}
-
-/// What a caller found in a record that it holds, and what can't change while it holds it.
+/// What a caller knows of a record that it holds. It knows nothing else of it when it reaches it anew.
 pub struct Note {
-    /// Its key.
-    pub key: Option<u64>,
-    /// A link that no step changes any more, and the field that has it.
-    pub frozen: Option<(u64, Link)>,
-    /// How many records were taken out, and how many updates took effect, when it was reached.
-    pub reached_at: (u64, u64),
+    /// Words 3 to 7: those that are known and that no step changes while the record keeps its generation.
+    pub words: LinkedList<Option<u64>>,
+    /// How many updates took effect when it was reached.
+    pub reached_at: u64,
 }
 
 /// What is known of a caller's guard. Outside a guard nothing is held.
 pub struct Guard {
     /// Whether the caller is between entering and leaving.
     pub inside: bool,
-    /// How many records were taken out at the announcing step.
+    /// How many records were taken out at the step that started the guard.
     pub start_removals: u64,
     /// How many updates took effect by then.
     pub start_updates: u64,
-    /// What it holds, by place.
-    pub holds: LinkedList<Option<Hold>>,
+    /// How many steps its caller had made with that one. It is 0 before the first guard.
+    pub start_step: u64,
+    /// The record that it holds at each place.
+    pub holds: LinkedList<Option<Ref>>,
     /// What it has loaded a link to and not confirmed yet: the place that waits, and the record.
     pub pending: Option<(u64, Ref)>,
     /// The epoch at the announcing step.
@@ -125,10 +117,6 @@ pub struct Guard {
     pub scan_place: u64,
     /// The announcement words that the scan in progress has loaded, in order.
     pub loaded: LinkedList<u64>,
-    /// How many births it answered, and how many records it retired.
-    pub births: u64,
-    /// How many records it retired.
-    pub retirements: u64,
 }
 
 /// All that is known of one caller.
@@ -149,6 +137,8 @@ pub struct Book {
     pub answered: LinkedList<Answered>,
     /// Its guard.
     pub guard: Guard,
+    /// What it knows of the record that it holds at each place.
+    pub notes: LinkedList<Note>,
 }
 
 /// What a pass knows: its own caller's book, the books of callers whose passes aren't split off

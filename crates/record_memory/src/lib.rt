@@ -9,5 +9,5 @@
 mod books;
 mod steps;
 
-pub use books::{Answered, Book, Drawing, Guard, Hold, Key, Note, Place, Share, Standing, View};
+pub use books::{Answered, Book, Drawing, Guard, Key, Note, Place, Share, Standing, View};
 pub use steps::{Step, StepKind, Word};
