@@ -1,5 +1,5 @@
 -- Drawing a record: 1 is added to the number of records drawn.
-use Rattle.std.proofs.Common.{◌≡◌, ◌≢◌, ℕ, ◌+◌, ◌-◌, ◌%◌, ◌<◌, ◌≤◌, ◌^◌, List, [], ◌∷◌, map, length, get_or, set, length-set, Bool, true, false, cond, ltb, sum_by, sym, refl, ap, ◌∙◌, subst, arith, ⊎_elim, Some, None, get_or-set_same}
+use Rattle.std.proofs.Common.{◌++◌, ◌≡◌, ◌≢◌, ℕ, ◌+◌, ◌-◌, ◌%◌, ◌<◌, ◌≤◌, ◌^◌, List, [], ◌∷◌, map, length, get_or, set, length-set, Bool, true, false, cond, ltb, sum_by, sym, refl, ap, ◌∙◌, subst, arith, ⊎_elim, Some, None, get_or-set_same}
 use Rattle.std.proofs.lemmas.List.{map-set, length-map}
 use Rattle.std.proofs.lemmas.List.Sums.{sum_by-cons, sum_by-set}
 use Rattle.std.proofs.lemmas.Bool.{ltb-true, ltb-false, le-ltb, lt-ltb}
@@ -22,13 +22,15 @@ use Rattle.record_memory.specs.declared.books.Place.TheVariants.{Undrawn, Root, 
 use Rattle.record_memory.specs.Memory.{Memory, memory, size}
 use Rattle.record_memory.proofs.Stores.{stores}
 use Rattle.record_rule.specs.Records.{Record, IsKey, IsSound, share, share_at, carried}
-use Rattle.record_rule.specs.Inputs.{ShapeInput, shape_cell, shape_at, SchemeInput, scheme_cell, scheme_at, locks_of, guard_of}
-use Rattle.record_rule.specs.World.{IsLeftBy, IsLeft, overshoot_by, overshoot, Places, Rule}
+use Rattle.record_rule.specs.Inputs.{shape_at, scheme_at, name_at, unnamed}
+use Rattle.record_rule.specs.Facts.{ShapeFacts, CoverFacts}
+use Rattle.record_rule.specs.World.{Parts, IsLeftBy, IsLeft, overshoot_by, overshoot, Places, Rule}
 use Rattle.record_rule.specs.Kinds.{draw_step, drawn_share, drew, drawing_after, share_in, DrewNew}
 use Rattle.record_rule.proofs.Lists.{below_at, at_below, get_at, each_set, map_set_same}
 use Rattle.record_rule.proofs.Owned.{seen_by, unseen_by}
-use Rattle.record_rule.proofs.Rebuilt.{own_book, rebuilt}
-use Rattle.record_rule.proofs.Quiet.{books_after, shape_stays, scheme_stays}
+use Rattle.record_rule.proofs.Rebuilt.{rebuilt}
+use Rattle.record_rule.proofs.Steps.{book}
+use Rattle.record_rule.proofs.Quiet.{books_after, IsSameBook, outline_same, outline_after}
 
 -- each caller goes past the last record at most once
 past_once : (d : Drawing) → overshoot_by d ≤ 1
@@ -36,6 +38,7 @@ past_once Unsure = omega arith
 past_once Below = omega arith
 past_once Past = omega arith
 
+-- so no more callers than there are went past the last record
 past_each : (books : List Book) → sum_by overshoot books ≤ length books
 past_each [] = omega arith
 past_each (b ∷ bs) = let e = sum_by-cons overshoot b bs in let h = past_each bs in let g = past_once b.drawing in omega arith
@@ -45,9 +48,11 @@ abbrev drawn_record : ℕ → ℕ → Record → Record
 drawn_record c first r = record r { place = Of c (Handing 0); era = first; removed = 0 }
 
 module _ (key : Key) (is_key : IsKey key) (bump : key.allocator ≡ Bump) where
+  -- a record that is left lies behind those that are drawn
   left_from : (m : Memory) (i : ℕ) → IsLeft key m i → m.drawn ≤ i
   left_from m i h = subst (λ (a : AllocatorName). IsLeftBy a key m i) bump h
 
+  -- and what lies behind them is left
   left_to : (m : Memory) (i : ℕ) → m.drawn ≤ i → IsLeft key m i
   left_to m i h = subst (λ (a : AllocatorName). IsLeftBy a key m i) (sym bump) h
 
@@ -57,10 +62,11 @@ module _ (key : Key) (is_key : IsKey key) (bump : key.allocator ≡ Bump) where
     eight = s.eight;
     generations = λ f h. s.generations f h ∙ ap (λ (p : Place). carried p r.era f) at ∙ (let e : r.era ≡ key.first - 1 = omega arith in e)
         ∙ sym (ap (λ b. cond b key.first (key.first - 1)) (le-ltb f 0 (omega arith)));
-    chained = s.chained;
+    links = s.links;
     within = is_key.first;
     roots = λ h. let no : ⊥ = (let e : Undrawn ≡ Root = sym at ∙ s.roots h in cc) in absurd no;
     no_root = λ e. let no : ⊥ = cc in absurd no;
+    root_era = λ e. let none : ⊥ = cc in absurd none;
     unborn = λ e. let no : ⊥ = cc in absurd no;
     blank = λ e. let no : ⊥ = cc in absurd no;
     born = λ _. omega arith;
@@ -117,11 +123,13 @@ module _ (key : Key) (is_key : IsKey key) (bump : key.allocator ≡ Bump) where
   whole : (records : List Record) (books : List Book) (m : Memory) (n : ℕ) → Places key records books m → m.drawn ≡ n → (n + 1) % 2 ^ 64 ≡ n + 1
   whole records books m n p is = let d = p.drawn in let e = past_each books in let c = p.callers in let k = is_key.callers in let r = is_key.records in let h : n + 1 < 2 ^ 64 = omega arith in mod-eq_of_lt h
 
-  module _ (formed : ShapeInput → Type 0) (covered : SchemeInput → Type 0) where
+  module _ (shape : ShapeFacts) (cover : CoverFacts) where
+    -- the rule after the step, with this book of its caller
     abbrev Kept : State (Unit {0}) View → ℕ → View → Book → Type 0
-    Kept s id v own = Rule formed covered key record { words = set s.words 0 (get_or s.words 0 0 + 1); homes = s.homes; views = set s.views id (record v { own = own }) }
+    Kept s id v own = Rule shape cover key record { words = set s.words 0 (get_or s.words 0 0 + 1); homes = s.homes; views = set s.views id (record v { own = own }) }
 
-    module _ (s : State (Unit {0}) View) (u : Rule formed covered key s) (id : ℕ) (v : View) (at : get_elem? s.views id ≡ some v) (present : v.present ≡ true) (below : v.own.drawing ≡ Below) where
+    module _ (s : State (Unit {0}) View) (u : Rule shape cover key s) (id : ℕ) (v : View) (at : get_elem? s.views id ≡ some v) (present : v.present ≡ true) (below : v.own.drawing ≡ Below) where
+      -- the table, the number that the step finds and its caller
       abbrev m : Memory
       m = memory key.callers key.records s.words
 
@@ -131,21 +139,22 @@ module _ (key : Key) (is_key : IsKey key) (bump : key.allocator ≡ Bump) where
       abbrev c : ℕ
       c = v.own.caller
 
-      mine : get_elem? u.books c ≡ some v.own
-      mine = (own_book key u.books u.seats u.removals u.updates id v present (u.seated id v at)).0
+      -- the caller's book
+      abbrev mine : get_elem? u.books c ≡ some v.own
+      mine = book shape cover key s u id v at present
 
+      -- it is the number of records drawn
       found : m.drawn ≡ n
       unfolding memory
       found = refl
 
+      -- which is one more afterwards
       stored : memory key.callers key.records (set s.words 0 (n + 1)) ≡ record m { drawn = n + 1 }
       stored = stores key.callers key.records s.words Drawn (n + 1) u.wide tt
 
+      -- the words are as many
       wide : length (set s.words 0 (n + 1)) ≡ size key.callers key.records
       wide = length-set s.words 0 (n + 1) ∙ u.wide
-
-      drawing_is : (d : Drawing) → drawing_after v.own.drawing key.records (draw_step v n) ≡ d → drawing_after Below key.records (draw_step v n) ≡ d
-      drawing_is d e = ap (λ (x : Drawing). drawing_after x key.records (draw_step v n)) (sym below) ∙ e
 
       -- the caller didn't have the record before
       old_none : n < key.records → share_in v (n + 1) ≡ None
@@ -153,6 +162,7 @@ module _ (key : Key) (is_key : IsKey key) (bump : key.allocator ≡ Bump) where
           ap (λ (k : ℕ). get_or v.own.mine k None) (let e : n + 1 - 1 ≡ n = omega arith in e) ∙ ap (λ l. get_or l n None) (u.places.books_fit c v.own mine).mine
           ∙ get_at (map (share c) u.records) n (share c there.0) None (at_map (share c) u.records n there.0 there.1) ∙ ap (λ (q : Place). share_at c q there.0) untouched
 
+      -- where one was left, the caller has it now
       new_to : v.key ≡ key → n < key.records → (share_in v (n + 1) ≡ None) × (share_in (drew v n) (n + 1) ≡ Some (drawn_share v.key.first))
       new_to same lt = (
         old_none lt,
@@ -162,49 +172,55 @@ module _ (key : Key) (is_key : IsKey key) (bump : key.allocator ≡ Bump) where
             ∙ get_or-set_same v.own.mine n (Some (drawn_share v.key.first)) None long,
       )
 
-      draws_one : (own : Book) → own.caller ≡ c → own.guard ≡ v.own.guard → own.locks ≡ v.own.locks → n < key.records → own.mine ≡ set v.own.mine n (Some (drawn_share key.first)) → own.drawing ≡ Unsure → Kept s id v own
-      draws_one own caller guard locks lt mine_is drawing =
+      -- the rule stays where one was left
+      draws_one : (own : Book) → own.caller ≡ c → IsSameBook v.own own → own.steps ≡ v.own.steps ++ draw_step v n ∷ [] → n < key.records → own.mine ≡ set v.own.mine n (Some (drawn_share key.first)) → own.drawing ≡ Unsure → Kept s id v own
+      draws_one own caller same steps lt mine_is drawing =
           let there = at_below u.records n (let k = u.places.many in omega arith) in let r : Record = there.0 in let new : Record = drawn_record c key.first r in
           let untouched : r.place ≡ Undrawn = u.places.left n r there.1 (left_to m n (let e = found in omega arith)) in
           let weight : overshoot own ≡ overshoot v.own = ap overshoot_by drawing ∙ sym (ap overshoot_by below) in
-          rebuilt formed covered key s u id v at present (set s.words 0 (n + 1)) wide (set u.records n new) own caller
+          rebuilt shape cover key s u id v at present (set s.words 0 (n + 1)) wide (set u.records n new) own (draw_step v n) caller same.answered same.guard steps
           (subst (λ (x : Memory). Places key (set u.records n new) (set u.books c own) x) (sym stored)
           (drawn_places u.records u.books m c n v.own own r u.places mine there.1 found lt caller mine_is weight (λ h. let no : ⊥ = (let e : Unsure ≡ Past = sym drawing ∙ h in cc) in no)))
-          (shape_stays formed u.records (set u.records n new) u.removals u.books (set u.books c own) (map_set_same shape_cell u.records n r new there.1 (sym (ap (λ (q : Place). shape_at q r) untouched)))
-          (map_set_same locks_of u.books c v.own own mine locks) u.shape)
-          (scheme_stays covered m (memory key.callers key.records (set s.words 0 (n + 1))) u.records (set u.records n new) u.removals (length u.updates) u.books (set u.books c own) (ap (λ (x : Memory). x.epoch) stored)
-          (ap (λ (x : Memory). x.announced) stored) (map_set_same scheme_cell u.records n r new there.1 (sym (ap (λ (q : Place). scheme_at q r) untouched))) (map_set_same guard_of u.books c v.own own mine guard) u.scheme)
+          (subst (Parts shape cover key) (sym (outline_after m (memory key.callers key.records (set s.words 0 (n + 1))) u.removals u.updates (ap (λ (x : Memory). x.epoch) stored) (ap (λ (x : Memory). x.announced) stored) u.books c v.own own mine same u.records n r new there.1 record {
+            shape = sym (ap (λ (q : Place). shape_at q r) untouched);
+            scheme = sym (ap (λ (q : Place). scheme_at q r) untouched);
+            name = ap unnamed (sym ((u.places.sound n r there.1).unborn untouched)) ∙ sym (ap (λ (q : Place). name_at q r) untouched);
+          })) u.parts)
 
-      draws_none : (own : Book) → own.caller ≡ c → own.guard ≡ v.own.guard → own.locks ≡ v.own.locks → key.records ≤ n → own.mine ≡ v.own.mine → own.drawing ≡ Past → Kept s id v own
-      draws_none own caller guard locks past mine_is drawing =
-          rebuilt formed covered key s u id v at present (set s.words 0 (n + 1)) wide u.records own caller
+      -- and where none was
+      draws_none : (own : Book) → own.caller ≡ c → IsSameBook v.own own → own.steps ≡ v.own.steps ++ draw_step v n ∷ [] → key.records ≤ n → own.mine ≡ v.own.mine → own.drawing ≡ Past → Kept s id v own
+      draws_none own caller same steps past mine_is drawing =
+          rebuilt shape cover key s u id v at present (set s.words 0 (n + 1)) wide u.records own (draw_step v n) caller same.answered same.guard steps
           (subst (λ (x : Memory). Places key u.records (set u.books c own) x) (sym stored)
           (passed_places u.records u.books m c n v.own own u.places mine found past caller mine_is (ap overshoot_by drawing) (ap overshoot_by below)))
-          (shape_stays formed u.records u.records u.removals u.books (set u.books c own) refl (map_set_same locks_of u.books c v.own own mine locks) u.shape)
-          (scheme_stays covered m (memory key.callers key.records (set s.words 0 (n + 1))) u.records u.records u.removals (length u.updates) u.books (set u.books c own) (ap (λ (x : Memory). x.epoch) stored)
-          (ap (λ (x : Memory). x.announced) stored) refl (map_set_same guard_of u.books c v.own own mine guard) u.scheme)
+          (subst (Parts shape cover key) (sym (outline_same m (memory key.callers key.records (set s.words 0 (n + 1))) u.removals u.updates (ap (λ (x : Memory). x.epoch) stored) (ap (λ (x : Memory). x.announced) stored) u.books c v.own own mine same u.records)) u.parts)
 
+      -- no guard, note, lock or answered call changes
+      same_book : IsSameBook v.own (drew v n).own
+      same_book = record { guard = refl; notes = refl; locks = refl; answered = refl }
+
+      -- so it stays
       draws_by : (t : Bool) → ltb n key.records ≡ t → v.key ≡ key → Kept s id v (drew v n).own
-      draws_by true is same = draws_one (drew v n).own refl refl refl (ltb-true n key.records is)
+      draws_by true is same = draws_one (drew v n).own refl same_book refl (ltb-true n key.records is)
           (ap (λ (k : Key). cond (ltb n k.records) (set v.own.mine n (Some (drawn_share k.first))) v.own.mine) same ∙ ap (λ b. cond b (set v.own.mine n (Some (drawn_share key.first))) v.own.mine) is)
           (ap (λ (x : Drawing). drawing_after x v.key.records (draw_step v n)) below ∙ ap (λ (k : Key). cond (ltb n k.records) Unsure Past) same ∙ ap (λ b. cond b Unsure Past) is)
-      draws_by false is same = draws_none (drew v n).own refl refl refl (ltb-false n key.records is)
+      draws_by false is same = draws_none (drew v n).own refl same_book refl (ltb-false n key.records is)
           (ap (λ (k : Key). cond (ltb n k.records) (set v.own.mine n (Some (drawn_share k.first))) v.own.mine) same ∙ ap (λ b. cond b (set v.own.mine n (Some (drawn_share key.first))) v.own.mine) is)
           (ap (λ (x : Drawing). drawing_after x v.key.records (draw_step v n)) below ∙ ap (λ (k : Key). cond (ltb n k.records) Unsure Past) same ∙ ap (λ b. cond b Unsure Past) is)
 
     -- A caller whose last step found fewer records drawn than there are may add 1. Where one is left then, it is the caller's
     pub draws : (slots id : ℕ) (me : Me (Unit {0}) View) → me.0.present ≡ true → me.0.own.drawing ≡ Below
-        → Allows (Rule formed covered key) slots id me 0 (λ n. (n + 1) % 2 ^ 64) (λ n w. (w ≡ (drew me.0 n, me.1)) × DrewNew me.0 n)
+        → Allows (Rule shape cover key) slots id me 0 (λ n. (n + 1) % 2 ^ 64) (λ n w. (w ≡ (drew me.0 n, me.1)) × DrewNew me.0 n)
     draws slots id me present below s u homes at _ = let n : ℕ = get_or s.words 0 0 in let v : View = me.0 in let same = (u.seated id v at).key_is present in (
       drew v n,
       keeps,
       tt,
-      subst (λ (z : ℕ). Rule formed covered key record { words = set s.words 0 z; homes = s.homes; views = set s.views id (drew v n) }) (sym (whole u.records u.books (memory key.callers key.records s.words) n u.places (found s u id v at present below)))
+      subst (λ (z : ℕ). Rule shape cover key record { words = set s.words 0 z; homes = s.homes; views = set s.views id (drew v n) }) (sym (whole u.records u.books (memory key.callers key.records s.words) n u.places (found s u id v at present below)))
           (draws_by s u id v at present below (ltb n key.records) refl same),
       (refl, λ lt. new_to s u id v at present below same (let e : v.key.records ≡ key.records = ap (λ (k : Key). k.records) same in omega arith)),
     )
 
     -- the same at a word that is the first one
     pub draws_at : (slots id : ℕ) (me : Me (Unit {0}) View) (word : ℕ) → word ≡ 0 → me.0.present ≡ true → me.0.own.drawing ≡ Below
-        → Allows (Rule formed covered key) slots id me word (λ n. (n + 1) % 2 ^ 64) (λ n w. (w ≡ (drew me.0 n, me.1)) × DrewNew me.0 n)
-    draws_at slots id me word is present below = subst (λ (z : ℕ). Allows (Rule formed covered key) slots id me z (λ n. (n + 1) % 2 ^ 64) (λ n w. (w ≡ (drew me.0 n, me.1)) × DrewNew me.0 n)) (sym is) (draws slots id me present below)
+        → Allows (Rule shape cover key) slots id me word (λ n. (n + 1) % 2 ^ 64) (λ n w. (w ≡ (drew me.0 n, me.1)) × DrewNew me.0 n)
+    draws_at slots id me word is present below = subst (λ (z : ℕ). Allows (Rule shape cover key) slots id me z (λ n. (n + 1) % 2 ^ 64) (λ n w. (w ≡ (drew me.0 n, me.1)) × DrewNew me.0 n)) (sym is) (draws slots id me present below)

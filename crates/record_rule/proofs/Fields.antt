@@ -1,5 +1,5 @@
 -- The owner's steps on the words of a record that it has.
-use Rattle.std.proofs.Common.{◌≡◌, ◌≢◌, ℕ, ◌+◌, ◌-◌, ◌<◌, ◌≤◌, List, [], map, length, get_or, take, set, length-set, Bool, true, false, cond, eqb, ltb, sym, refl, ap, ◌∙◌, subst, arith, ◌⊎◌, ⊎_elim, Some, get_or-set_same, get_or-set_other}
+use Rattle.std.proofs.Common.{◌≡◌, ◌≢◌, ℕ, ◌+◌, ◌-◌, ◌<◌, ◌≤◌, List, [], map, get_or, take, set, length-set, Bool, true, false, cond, eqb, ltb, sym, refl, ap, ◌∙◌, subst, arith, ◌⊎◌, ⊎_elim, Some, get_or-set_other}
 use Rattle.std.proofs.lemmas.List.{map-set, drop-set-lt}
 use Rattle.std.proofs.lemmas.Bool.{eqb-true, eqb-false, lt-ltb, le-ltb, ne_eqb}
 use mathlib.Core.Logic.{dite}
@@ -19,11 +19,11 @@ use Rattle.record_memory.specs.declared.books.Place.TheVariants.{Undrawn, Root, 
 use Rattle.record_memory.specs.Memory.{Memory, put, row_at}
 use Rattle.record_memory.proofs.Stores.{take-set}
 use Rattle.row_words.specs.Packing.{own_in, number_in, IsPackedLink}
-use Rattle.record_rule.specs.Inputs.{hidden, out, shape_had, unlinked, removed, limbo, scheme_had}
-use Rattle.record_rule.specs.Records.{Record, IsSound, known, share, carried, carried_by}
+use Rattle.record_rule.specs.Inputs.{hidden, out, shape_had, unlinked, removed, limbo, scheme_had, unnamed, name_had}
+use Rattle.record_rule.specs.Records.{Record, IsLinkField, IsSound, known, share, carried, carried_by}
 use Rattle.record_rule.specs.World.{IsLeftBy, IsLeft, overshoot, Places}
-use Rattle.record_rule.specs.Kinds.{MayStoreAs, standing_after}
-use Rattle.record_rule.proofs.Lists.{get_at, each_set, map_set_same}
+use Rattle.record_rule.specs.Kinds.{MayStoreAs, EndsHanding, standing_after}
+use Rattle.record_rule.proofs.Lists.{get_at, each_set, got_set, map_set_same}
 use Rattle.record_rule.proofs.Owned.{share_of, seen_by, unseen_by}
 use Rattle.record_rule.proofs.Quiet.{same_overshoot, books_after, past_before}
 
@@ -42,26 +42,19 @@ module _ (key : Key) where
     pub below : f < 8
     pub own : (g : ℕ) → g < 8 → g ≡ f → own_in value ≡ carried_by t r.era g
     pub others : (g : ℕ) → g < 8 → g ≢ f → carried_by t r.era g ≡ carried_by s r.era g
-    pub link : f ≡ 1 → IsPackedLink value
+    pub link : IsLinkField f → IsPackedLink value
     pub unfinished : (n : ℕ) → t ≡ Handing n → n < 8
 
-  generations_after : (i c : ℕ) (s t : Standing) (r : Record) (f value : ℕ) → r.place ≡ Of c s → IsSound key i r → Stores s t r f value
-      → (g : ℕ) → g < 8 → Dec (g ≡ f) → own_in (get_or (set r.row f value) g 0) ≡ carried_by t r.era g
-  generations_after i c s t r f value at sound st g h (yes e) = ap own_in (ap (λ (k : ℕ). get_or (set r.row f value) k 0) e ∙ get_or-set_same r.row f value 0 (let l = sound.eight in omega arith)) ∙ st.own g h e
-  generations_after i c s t r f value at sound st g h (no ne) = ap own_in (get_or-set_other r.row f g value 0 ne) ∙ sound.generations g h ∙ ap (λ (p : Place). carried p r.era g) at ∙ sym (st.others g h ne)
-
-  chained_after : (r : Record) (f value : ℕ) → length r.row ≡ 8 → IsPackedLink (get_or r.row 1 0) → (f ≡ 1 → IsPackedLink value) → Dec (1 ≡ f) → IsPackedLink (get_or (set r.row f value) 1 0)
-  chained_after r f value eight was link (yes e) = subst IsPackedLink (sym (ap (λ (k : ℕ). get_or (set r.row f value) k 0) e ∙ get_or-set_same r.row f value 0 (omega arith))) (link (sym e))
-  chained_after r f value eight was link (no ne) = subst IsPackedLink (sym (get_or-set_other r.row f 1 value 0 ne)) was
-
+  -- so the record is sound afterwards
   sound_after : (i c : ℕ) (s t : Standing) (r : Record) (f value : ℕ) → r.place ≡ Of c s → IsSound key i r → Stores s t r f value → IsSound key i (with_word c t r f value)
   sound_after i c s t r f value at sound st = record {
     eight = length-set r.row f value ∙ sound.eight;
-    generations = λ g h. generations_after i c s t r f value at sound st g h (ℕ_discrete g f);
-    chained = chained_after r f value sound.eight sound.chained st.link (ℕ_discrete 1 f);
+    generations = λ g h. got_set (λ (n : ℕ). own_in n ≡ carried_by t r.era g) r.row f g value 0 (let l = sound.eight in let k = st.below in omega arith) (λ e. st.own g h e) (λ ne. sound.generations g h ∙ ap (λ (p : Place). carried p r.era g) at ∙ sym (st.others g h ne));
+    links = λ g is. got_set IsPackedLink r.row f g value 0 (let l = sound.eight in let k = st.below in omega arith) (λ e. st.link (subst IsLinkField e is)) (λ ne. sound.links g is);
     within = sound.within;
     roots = λ h. let none : ⊥ = (let e : Of c s ≡ Root = sym at ∙ sound.roots h in cc) in absurd none;
     no_root = λ e. let none : ⊥ = cc in absurd none;
+    root_era = λ e. let none : ⊥ = cc in absurd none;
     unborn = λ e. let none : ⊥ = cc in absurd none;
     blank = λ e. let none : ⊥ = cc in absurd none;
     born = λ _. sound.born (λ e. let none : ⊥ = (let k : Of c s ≡ Undrawn = sym at ∙ e in cc) in none);
@@ -94,13 +87,15 @@ module _ (key : Key) where
             } p.books_fit;
       }
 
+-- below a number it is the first of the two
 cond_below : (g n a b : ℕ) → g < n → cond (ltb g n) a b ≡ a
 cond_below g n a b h = ap (λ (t : Bool). cond t a b) (lt-ltb g n h)
 
+-- from it on, the second
 cond_above : (g n a b : ℕ) → n ≤ g → cond (ltb g n) a b ≡ b
 cond_above g n a b h = ap (λ (t : Bool). cond t a b) (le-ltb g n h)
 
-module _ (key : Key) (r : Record) (f value : ℕ) (below : f < 8) (own : own_in value ≡ r.era) (link : f ≡ 1 → IsPackedLink value) where
+module _ (key : Key) (r : Record) (f value : ℕ) (below : f < 8) (own : own_in value ≡ r.era) (link : IsLinkField f → IsPackedLink value) where
   -- a step that leaves the standing, where all eight words carry the generation
   stores_whole : (s : Standing) → ((g : ℕ) → carried_by s r.era g ≡ r.era) → ((n : ℕ) → s ≡ Handing n → ⊥) → Stores key s s r f value
   stores_whole s whole none = record {
@@ -111,6 +106,7 @@ module _ (key : Key) (r : Record) (f value : ℕ) (below : f < 8) (own : own_in 
     unfinished = λ n e. absurd (none n e);
   }
 
+  -- a store of a handing out
   stores_handing : (n : ℕ) (t : Bool) → eqb n 7 ≡ t → f ≡ n → Stores key (Handing n) (cond t Own (Handing (n + 1))) r f value
   stores_handing n true is e = let seven = eqb-true n 7 is in record {
     below = below;
@@ -128,6 +124,7 @@ module _ (key : Key) (r : Record) (f value : ℕ) (below : f < 8) (own : own_in 
     unfinished = λ k q. let z : n + 1 ≡ k = cc in omega arith;
   }
 
+  -- each store that an owner may make
   pub stores_as : (s : Standing) → MayStoreAs s f → Stores key s (standing_after s) r f value
   stores_as (Handing n) h = stores_handing n (eqb n 7) refl h
   stores_as Own h = stores_whole Own (λ g. refl) (λ n e. cc)
@@ -141,63 +138,60 @@ module _ (key : Key) (r : Record) (f value : ℕ) (below : f < 8) (own : own_in 
 known_whole : (f value : ℕ) (row : List ℕ) → f < 3 → take 3 (set row f value) ≡ set (take 3 row) f value
 known_whole f value row h = take-set 3 f value row h
 
+-- of a record that is handed out, the whole row
 known_handing : (n : ℕ) (t : Bool) (f value : ℕ) (row : List ℕ) → known (cond t Own (Handing (n + 1))) (set row f value) ≡ set row f value
 known_handing n true f value row = refl
 known_handing n false f value row = refl
 
+-- of each record that it has
 pub known_after : (s : Standing) (f value : ℕ) (row : List ℕ) → MayStoreAs s f → known (standing_after s) (set row f value) ≡ set (known s row) f value
 known_after (Handing n) f value row h = known_handing n (eqb n 7) f value row
 known_after Own f value row h = refl
 known_after Spare f value row h = refl
-known_after TakenOut f value row h = known_whole f value row (omega arith)
-known_after Limbo f value row h = known_whole f value row (omega arith)
-known_after Free f value row h = known_whole f value row (omega arith)
 known_after Spent f value row h = absurd h
+known_after s f value row h = known_whole f value row (omega arith)
 
 -- the set's facts do not see the step
 hidden_handing : (n : ℕ) (t : Bool) (r : Record) → shape_had (cond t Own (Handing (n + 1))) r ≡ hidden
 hidden_handing n true r = refl
 hidden_handing n false r = refl
 
+-- wherever the record is
 pub shape_unmoved : (c : ℕ) (s : Standing) (r : Record) (f value : ℕ) → MayStoreAs s f → shape_had (standing_after s) (with_word c (standing_after s) r f value) ≡ shape_had s r
 shape_unmoved c (Handing n) r f value h = hidden_handing n (eqb n 7) (with_word c (cond (eqb n 7) Own (Handing (n + 1))) r f value)
-shape_unmoved c Own r f value h = refl
-shape_unmoved c Spare r f value h = refl
 shape_unmoved c TakenOut r f value h = ap (λ (b : List ℕ). out r.era b r.marked r.removed) (drop-set-lt 3 r.row f value (omega arith))
 shape_unmoved c Limbo r f value h = ap (λ (b : List ℕ). out r.era b r.marked r.removed) (drop-set-lt 3 r.row f value (omega arith))
-shape_unmoved c Free r f value h = refl
-shape_unmoved c Spent r f value h = refl
+shape_unmoved c s r f value h = refl
 
--- nor do the reclaimer's, but for the step that ends a handing out
-abbrev pub Ends : Standing → Type 0
-Ends (Handing n) = n ≡ 7
-Ends Own = ⊥
-Ends Spare = ⊥
-Ends TakenOut = ⊥
-Ends Limbo = ⊥
-Ends Free = ⊥
-Ends Spent = ⊥
+-- nor does the list of those taken out
+unnamed_handing : (n : ℕ) (t : Bool) (r : Record) → name_had (cond t Own (Handing (n + 1))) r ≡ unnamed r.era
+unnamed_handing n true r = refl
+unnamed_handing n false r = refl
 
-pub ends : (s : Standing) → Dec (Ends s)
+-- wherever the record is
+pub name_unmoved : (c : ℕ) (s : Standing) (r : Record) (f value : ℕ) → MayStoreAs s f → name_had (standing_after s) (with_word c (standing_after s) r f value) ≡ name_had s r
+name_unmoved c (Handing n) r f value h = unnamed_handing n (eqb n 7) (with_word c (cond (eqb n 7) Own (Handing (n + 1))) r f value)
+name_unmoved c s r f value h = refl
+
+-- nor do the reclaimer's facts, but for the step that ends a handing out
+pub ends : (s : Standing) → Dec (EndsHanding s)
 ends (Handing n) = ℕ_discrete n 7
-ends Own = no (λ e. e)
-ends Spare = no (λ e. e)
-ends TakenOut = no (λ e. e)
-ends Limbo = no (λ e. e)
-ends Free = no (λ e. e)
-ends Spent = no (λ e. e)
+ends s = no (λ e. e)
 
-word_stays : (r : Record) (g f value : ℕ) → g ≢ f → number_in (get_or (set r.row f value) g 0) ≡ number_in (get_or r.row g 0)
-word_stays r g f value ne = ap number_in (get_or-set_other r.row f g value 0 ne)
+-- each other word stays
+pub number_stays : (r : Record) (g f value : ℕ) → g ≢ f → number_in (get_or (set r.row f value) g 0) ≡ number_in (get_or r.row g 0)
+number_stays r g f value ne = ap number_in (get_or-set_other r.row f g value 0 ne)
 
+-- it isn't word 0
 own_field : (f : ℕ) → (f ≡ 1) ⊎ ((3 ≤ f) × (f < 8)) → 0 ≢ f
 own_field f h e = ⊎_elim (λ q. omega arith) (λ q. omega arith) h
 
-pub scheme_unmoved : (c : ℕ) (s : Standing) (r : Record) (f value : ℕ) → MayStoreAs s f → ¬ Ends s → scheme_had c (standing_after s) (with_word c (standing_after s) r f value) ≡ scheme_had c s r
+-- where no handing out ends
+pub scheme_unmoved : (c : ℕ) (s : Standing) (r : Record) (f value : ℕ) → MayStoreAs s f → ¬ EndsHanding s → scheme_had c (standing_after s) (with_word c (standing_after s) r f value) ≡ scheme_had c s r
 scheme_unmoved c (Handing n) r f value h more = ap (λ (t : Bool). scheme_had c (cond t Own (Handing (n + 1))) (with_word c (cond t Own (Handing (n + 1))) r f value)) (ne_eqb n 7 more)
-scheme_unmoved c Own r f value h more = ap (unlinked c r.era) (word_stays r 0 f value (own_field f h))
-scheme_unmoved c Spare r f value h more = ap (unlinked c r.era) (word_stays r 0 f value (λ e. omega arith))
-scheme_unmoved c TakenOut r f value h more = ap (λ (b : ℕ). removed c r.era b r.removed) (word_stays r 0 f value (λ e. omega arith))
-scheme_unmoved c Limbo r f value h more = λ k. limbo c r.era (word_stays r 0 f value (λ e. omega arith) k) r.removed (word_stays r 2 f value (λ e. omega arith) k) r.retired
+scheme_unmoved c Own r f value h more = ap (unlinked c r.era) (number_stays r 0 f value (own_field f h))
+scheme_unmoved c Spare r f value h more = ap (unlinked c r.era) (number_stays r 0 f value (λ e. omega arith))
+scheme_unmoved c TakenOut r f value h more = ap (λ (b : ℕ). removed c r.era b r.removed) (number_stays r 0 f value (λ e. omega arith))
+scheme_unmoved c Limbo r f value h more = λ k. limbo c r.era (number_stays r 0 f value (λ e. omega arith) k) r.removed (number_stays r 2 f value (λ e. omega arith) k) r.retired
 scheme_unmoved c Free r f value h more = refl
 scheme_unmoved c Spent r f value h more = refl

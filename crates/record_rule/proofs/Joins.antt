@@ -10,33 +10,35 @@ use Rattle.record_memory.specs.declared.books.Key.{Key}
 use Rattle.record_memory.specs.declared.books.View.{View}
 use Rattle.record_memory.specs.declared.books.Book.{Book}
 use Rattle.row_words.specs.Refs.{RefParts}
-use Rattle.record_rule.specs.Inputs.{ShapeInput, SchemeInput}
+use Rattle.record_rule.specs.Facts.{At, ShapeFacts, CoverFacts}
 use Rattle.record_rule.specs.World.{carries, SeatFits, Rule}
 use Rattle.record_rule.specs.Splits.{joined, spent}
-use Rattle.record_rule.proofs.Lists.{one_at}
+use Rattle.record_rule.proofs.Lists.{one_at, at_append}
 use Rattle.record_rule.proofs.Rebuilt.{carries_own}
-use Rattle.record_rule.proofs.Seats.{at_append, starts_longer, reseated}
-
-abbrev At : List Book → ℕ → Book → Type 0
-At l p b = get_elem? l p ≡ some b
+use Rattle.record_rule.proofs.Seats.{starts_longer, length-longer, reseated}
 
 -- what stood in seat `other` stands in seat `id`
 abbrev moved : ℕ → ℕ → ℕ → ℕ
 moved id other j = cond (eqb j other) id j
 
 module _ (key : Key) (books : List Book) (seats : List ℕ) (removals : List RefParts) (updates : List Update) (id other : ℕ) (apart_seats : other ≢ id) where
+  -- the seats afterwards
   abbrev seats' : List ℕ
   seats' = map (moved id other) seats
 
+  -- a book of the one seat is in the other now
   from_other : (c : ℕ) → get_elem? seats c ≡ some other → get_elem? seats' c ≡ some id
   from_other c e = at_map (moved id other) seats c other e ∙ ap some (ap (λ b. cond b id other) (eq-eqb other other refl))
 
+  -- each other book stays in its seat
   from_else : (c j : ℕ) → j ≢ other → get_elem? seats c ≡ some j → get_elem? seats' c ≡ some j
   from_else c j ne e = at_map (moved id other) seats c j e ∙ ap some (ap (λ b. cond b id j) (ne_eqb j other ne))
 
+  -- so each other pass fits
   pub third_fits : (j : ℕ) (x : View) → j ≢ other → SeatFits key books seats removals updates j x → SeatFits key books seats' removals updates j x
   third_fits j x ne f = reseated key books removals updates seats seats' j j x f (λ p b e. from_else b.caller j ne (f.books_are p b e).1)
 
+  -- the spent pass carries nothing
   pub spent_fits : SeatFits key books seats' removals updates other spent
   spent_fits = record {
     key_is = λ e. let none : ⊥ = cc in absurd none;
@@ -45,21 +47,26 @@ module _ (key : Key) (books : List Book) (seats : List ℕ) (removals : List Ref
     front = (updates, refl);
     noted_updates = (updates, refl);
     noted_removals = (removals, refl);
+    behind = λ p n b a e h. absurd (some-ne-none b (sym e));
   }
 
   module _ (v w : View) (present : v.present ≡ true) (f : SeatFits key books seats removals updates id v) (g : SeatFits key books seats removals updates other w) where
+    -- the joined pass carries the books of both
     both_all : carries (joined v w) ≡ carries v ++ carries w
     both_all = carries_own (joined v w) present ∙ sym (ap (λ l. l ++ carries w) (carries_own v present))
 
+    -- the two passes carry books of different callers
     different : (p q : ℕ) (a b : Book) → get_elem? (carries v) p ≡ some a → get_elem? (carries w) q ≡ some b → a.caller ≢ b.caller
     different p q a b ea eb h = apart_seats (one_at seats b.caller other id (g.books_are q b eb).1 (ap (get_elem? seats) (sym h) ∙ (f.books_are p a ea).1))
 
+    -- so it carries the book of one caller once
     one_place : (p q : ℕ) (a b : Book) → get_elem? (carries v ++ carries w) p ≡ some a → get_elem? (carries v ++ carries w) q ≡ some b → a.caller ≡ b.caller → p ≡ q
     one_place p q a b ea eb h = ⊎_elim
         (λ x. ⊎_elim (λ y. f.apart p q a b x y h) (λ y. absurd (different p y.0 a b x y.2 h)) (at_append (carries v) (carries w) q b eb))
         (λ x. ⊎_elim (λ y. absurd (different q x.0 b a y x.2 (sym h))) (λ y. let z : x.0 ≡ y.0 = g.apart x.0 y.0 a b x.2 y.2 h in omega (arith, x.1, y.1)) (at_append (carries v) (carries w) q b eb))
         (at_append (carries v) (carries w) p a ea)
 
+    -- and fits
     pub both_fits : SeatFits key books seats' removals updates id (joined v w)
     both_fits = record {
       key_is = f.key_is;
@@ -69,11 +76,13 @@ module _ (key : Key) (books : List Book) (seats : List ℕ) (removals : List Ref
       front = starts_longer updates v.front w.front f.front g.front;
       noted_updates = starts_longer updates v.noted_updates w.noted_updates f.noted_updates g.noted_updates;
       noted_removals = starts_longer removals v.noted_removals w.noted_removals f.noted_removals g.noted_removals;
+      behind = λ p n b a e h. let l = length-longer v.front w.front in ⊎_elim (λ x. let k = f.behind p n b a x h in omega (arith, l.0)) (λ x. let k = g.behind x.0 n b a x.2 h in omega (arith, l.1))
+          (at_append (carries v) (carries w) p b (subst (λ l. At l p b) both_all e));
     }
 
-module _ (formed : ShapeInput → Type 0) (covered : SchemeInput → Type 0) (key : Key) where
+module _ (shape : ShapeFacts) (cover : CoverFacts) (key : Key) where
   -- a pass takes in what another knows, and the other is spent
-  pub joins : (id : ℕ) (v : View) (other : ℕ) (w : View) → v.present ≡ true → Joins (Rule formed covered key) id v other w (joined v w) spent
+  pub joins : (id : ℕ) (v : View) (other : ℕ) (w : View) → v.present ≡ true → Joins (Rule shape cover key) id v other w (joined v w) spent
   joins id v other w present s u at ne there = let there' : get_elem? s.views other ≡ some w = sym (set_else s.views id other (joined v w) ne) ∙ there in
       let f = u.seated id v at in let g = u.seated other w there' in let new : List ℕ = map (moved id other) u.seats in
       let Fits : ℕ → View → Type 0 = λ j x. SeatFits key u.books new u.removals u.updates j x in record {
@@ -84,8 +93,8 @@ module _ (formed : ShapeInput → Type 0) (covered : SchemeInput → Type 0) (ke
         updates = u.updates;
         wide = u.wide;
         places = u.places;
-        shape = u.shape;
-        scheme = u.scheme;
+        parts = u.parts;
+        started = u.started;
         seated = λ j x e. ⊎_elim (λ t. subst (λ (z : ℕ). Fits z x) (sym t.0) (subst (Fits other) t.1 (spent_fits key u.books u.seats u.removals u.updates id other ne)))
             (λ t. ⊎_elim (λ q. subst (λ (z : ℕ). Fits z x) (sym q.0) (subst (Fits id) q.1 (both_fits key u.books u.seats u.removals u.updates id other ne v w present f g)))
             (λ q. third_fits key u.books u.seats u.removals u.updates id other ne j x t.0 (u.seated j x q.1)) (at_set s.views id j (joined v w) x t.1))

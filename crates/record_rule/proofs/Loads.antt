@@ -1,23 +1,18 @@
 -- Loads of control words.
-use Rattle.std.proofs.Common.{◌≡◌, ℕ, ◌≤◌, ◌<◌, List, length, get_or, set, cond, true, sym, refl, ap, ◌∙◌, subst, arith}
-use Rattle.std.proofs.lemmas.List.{set-get_or}
+use Rattle.std.proofs.Common.{◌≡◌, ℕ, ◌≤◌, ◌<◌, List, get_or, cond, true, sym, refl, ap, ◌∙◌, arith}
 use Rattle.std.proofs.lemmas.Bool.{lt-ltb}
-use mathlib.Core.Option.{some}
-use lib.ListN.{get_elem?}
 use Rattle.atomic_table.specs.Table.{Me, Allows, keeps}
 use Rattle.record_memory.specs.declared.books.Key.{Key}
 use Rattle.record_memory.specs.declared.books.View.{View}
 use Rattle.record_memory.specs.declared.books.Drawing.{Drawing}
 use Rattle.record_memory.specs.declared.books.Drawing.TheVariants.{Unsure, Below, Past}
-use Rattle.record_memory.specs.declared.steps.Step.{Step}
 use Rattle.record_memory.specs.Memory.{Memory, memory}
-use Rattle.record_rule.specs.Inputs.{ShapeInput, SchemeInput, locks_of, guard_of}
+use Rattle.record_rule.specs.Facts.{ShapeFacts, CoverFacts}
 use Rattle.record_rule.specs.World.{Rule}
 use Rattle.record_rule.specs.Kinds.{control_load, loaded_control, ShowsBelow, drawing_after}
-use Rattle.record_rule.proofs.Lists.{map_set_same}
-use Rattle.record_rule.proofs.Rebuilt.{own_book, rebuilt}
-use Rattle.record_rule.proofs.Quiet.{calm_after, places_calm, shape_stays, scheme_stays}
+use Rattle.record_rule.proofs.Steps.{book, kept_calm}
 
+-- the first word is the number of records drawn
 found_drawn : (key : Key) (ws : List ℕ) (word : ℕ) → word ≡ 0 → (memory key.callers key.records ws).drawn ≡ get_or ws word 0
 unfolding memory
 found_drawn key ws word first = ap (λ (z : ℕ). get_or ws z 0) (sym first)
@@ -31,25 +26,19 @@ below_then Below key m v word n is past first found same lt = ap (λ (x : Drawin
     ∙ ap (λ b. cond b Below Unsure) (lt-ltb n v.key.records lt)
 below_then Past key m v word n is past first found same lt = let h = past is in let e : v.key.records ≡ key.records = ap (λ (k : Key). k.records) same in absurd (omega arith)
 
-module _ (formed : ShapeInput → Type 0) (covered : SchemeInput → Type 0) (key : Key) where
+module _ (shape : ShapeFacts) (cover : CoverFacts) (key : Key) where
   -- a load of any control word changes nothing, and its caller notes it
   pub loads_control : (slots id : ℕ) (me : Me (Unit {0}) View) (word : ℕ) → me.0.present ≡ true
-      → Allows (Rule formed covered key) slots id me word (λ n. n) (λ n w. (w ≡ (loaded_control me.0 word n, me.1)) × ShowsBelow me.0 word n)
+      → Allows (Rule shape cover key) slots id me word (λ n. n) (λ n w. (w ≡ (loaded_control me.0 word n, me.1)) × ShowsBelow me.0 word n)
   loads_control slots id me word present s u wide at _ =
-      let v : View = me.0 in let n : ℕ = get_or s.words word 0 in let t : Step = control_load v word n in let w : View = loaded_control v word n in let c : ℕ = v.own.caller in let m : Memory = memory key.callers key.records s.words in
-      let here : get_elem? u.books c ≡ some v.own = (own_book key u.books u.seats u.removals u.updates id v present (u.seated id v at)).0 in
-      let same : set s.words word n ≡ s.words = set-get_or s.words word 0 in (
-        w,
+      let v : View = me.0 in let n : ℕ = get_or s.words word 0 in let m : Memory = memory key.callers key.records s.words in (
+        loaded_control v word n,
         keeps,
         tt,
-        subst (λ (ws : List ℕ). Rule formed covered key record { words = ws; homes = s.homes; views = set s.views id w }) (sym same)
-            (rebuilt formed covered key s u id v at present s.words u.wide u.records w.own refl
-            (places_calm key u.records u.books m c v.own w.own here refl refl (calm_after v.own.drawing v.key.records t tt) u.places)
-            (shape_stays formed u.records u.records u.removals u.books _ refl (map_set_same locks_of u.books c v.own w.own here refl) u.shape)
-            (scheme_stays covered m m u.records u.records u.removals (length u.updates) u.books _ refl refl refl (map_set_same guard_of u.books c v.own w.own here refl) u.scheme)),
+        kept_calm shape cover key s u id v at present word (control_load v word n) tt,
         (
           refl,
-          λ first lt. below_then v.own.drawing key m v word n refl (λ past. (u.places.books_fit c v.own here).past past) first (found_drawn key s.words word first)
+          λ first lt. below_then v.own.drawing key m v word n refl (λ past. (u.places.books_fit v.own.caller v.own (book shape cover key s u id v at present)).past past) first (found_drawn key s.words word first)
               ((u.seated id v at).key_is present) lt,
         ),
       )

@@ -1,6 +1,6 @@
 -- A front goes from one pass to another by a note, and no fact about the table changes.
-use Rattle.std.proofs.Common.{◌≡◌, ℕ, List, [], ◌∷◌, ◌++◌, length, get_or, drop, set, Bool, true, false, not, cond, sym, refl, ap, ◌∙◌, subst, arith, ◌⊎◌, inl, inr, ⊎_elim}
-use Rattle.std.proofs.lemmas.List.{set-get_or, append-nil}
+use Rattle.std.proofs.Common.{◌≡◌, ℕ, List, [], ◌∷◌, ◌++◌, length, length-append, ◌≤◌, get_or, drop, set, Bool, true, false, not, cond, sym, refl, ap, ◌∙◌, subst, arith, ◌⊎◌, inl, inr, ⊎_elim}
+use Rattle.std.proofs.lemmas.List.{set-get_or}
 use Rattle.std.proofs.lemmas.Bool.{true≢false, and_parts, and_from, eqb-true, eq-eqb, both_ways}
 use mathlib.Core.Option.{some, some-injective, some-ne-none}
 use lib.ListN.{get_elem?}
@@ -11,24 +11,24 @@ use Rattle.record_memory.specs.declared.books.Key.{Key}
 use Rattle.record_memory.specs.declared.books.View.{View}
 use Rattle.record_memory.specs.declared.books.Book.{Book}
 use Rattle.row_words.specs.Refs.{RefParts}
-use Rattle.record_rule.specs.Inputs.{ShapeInput, SchemeInput}
+use Rattle.record_rule.specs.Facts.{ShapeFacts, CoverFacts}
 use Rattle.record_rule.specs.World.{StartsWith, carries, SeatFits, Rule}
 use Rattle.record_rule.specs.Splits.{spent}
 use Rattle.record_rule.specs.Meetings.{note, same_update, begins, heard_by, heard, IsOneHistory, HasMet}
 use Rattle.record_rule.proofs.Lists.{get_at}
-use Rattle.record_rule.proofs.Rebuilt.{carries_own}
+use Rattle.record_rule.proofs.Rebuilt.{carries_own, starts_itself}
 use Rattle.record_rule.proofs.Seats.{at_end}
 
 module _ {A : Type 0} where
+  -- two equal lists have one head
   heads : (x y : A) (xs ys : List A) → x ∷ xs ≡ y ∷ ys → x ≡ y
   heads x y xs ys e = some-injective x y (ap (λ (l : List A). get_elem? l 0) e)
 
+  -- and one tail
   tails : (x y : A) (xs ys : List A) → x ∷ xs ≡ y ∷ ys → xs ≡ ys
   tails x y xs ys e = ap (λ (l : List A). drop 1 l) e
 
-  pub starts_itself : (xs : List A) → StartsWith xs xs
-  starts_itself xs = ([], sym (append-nil xs))
-
+  -- one more entry before both
   starts_cons : (x y : A) (xs ys : List A) → x ≡ y → StartsWith ys xs → StartsWith (y ∷ ys) (x ∷ xs)
   starts_cons x y xs ys e p = (p.0, (λ k. sym e k ∷ p.1 k))
 
@@ -40,33 +40,44 @@ module _ {A : Type 0} where
   one_begins (w ∷ ws) (x ∷ xs) (y ∷ ys) p q = let same : x ≡ y = sym (heads w x ws _ p.1) ∙ heads w y ws _ q.1 in
       ⊎_elim (λ t. inl (starts_cons x y xs ys same t)) (λ t. inr (starts_cons y x ys xs (sym same) t)) (one_begins ws xs ys (p.0, tails w x ws _ p.1) (q.0, tails w y ws _ q.1))
 
+  -- a beginning is no longer than the whole
+  starts_long : (whole xs : List A) → StartsWith whole xs → length xs ≤ length whole
+  starts_long whole xs p = let e = ap length p.1 in let l = length-append xs p.0 in omega arith
+
+-- two booleans that pass the test are one
 same_bool : (a b : Bool) → cond a b (not b) ≡ true → a ≡ b
 same_bool true true e = refl
 same_bool true false e = sym e
 same_bool false true e = e
 same_bool false false e = refl
 
+-- each passes it with itself
 bool_itself : (a : Bool) → cond a a (not a) ≡ true
 bool_itself true = refl
 bool_itself false = refl
 
+-- two updates that pass the test are one
 same_true : (a b : Update) → same_update a b ≡ true → a ≡ b
 same_true a b e = let p = and_parts _ _ e in let q = and_parts _ _ p.1 in let r = and_parts _ _ q.1 in
     let c = eqb-true a.caller b.caller p.0 in let n = eqb-true a.number b.number q.0 in let k = eqb-true a.key b.key r.0 in let d = same_bool a.added b.added r.1 in
     λ i. record { caller = c i; number = n i; key = k i; added = d i }
 
+-- and each passes it with itself
 same_itself : (a : Update) → same_update a a ≡ true
 same_itself a = and_from _ _ (eq-eqb a.caller a.caller refl) (and_from _ _ (eq-eqb a.number a.number refl) (and_from _ _ (eq-eqb a.key a.key refl) (bool_itself a.added)))
 
+-- a list that passes the test begins the other
 begins_true : (xs ys : List Update) → begins xs ys ≡ true → StartsWith ys xs
 begins_true [] ys e = (ys, refl)
 begins_true (x ∷ xs) [] e = absurd (true≢false (sym e))
 begins_true (x ∷ xs) (y ∷ ys) e = let p = and_parts _ _ e in starts_cons x y xs ys (same_true x y p.0) (begins_true xs ys p.1)
 
+-- a list passes it with each longer one
 begins_whole : (xs rest : List Update) → begins xs (xs ++ rest) ≡ true
 begins_whole [] rest = refl
 begins_whole (x ∷ xs) rest = and_from _ _ (same_itself x) (begins_whole xs rest)
 
+-- so each beginning passes it
 begins_from : (xs ys : List Update) → StartsWith ys xs → begins xs ys ≡ true
 begins_from xs ys p = ap (begins xs) p.1 ∙ begins_whole xs p.0
 
@@ -76,24 +87,12 @@ has_met true c v front e f h = record { own = begins_true v.front front e; met =
 has_met false true v front e f h = record { own = starts_itself v.front; met = begins_true front v.front f; one = inl refl; rest = refl }
 has_met false false v front e f h = ⊎_elim (λ t. absurd (both_ways _ e (begins_from v.front front t))) (λ t. absurd (both_ways _ f (begins_from front v.front t))) h
 
+-- whatever the tests say
 pub meets : (v : View) (front : List Update) → IsOneHistory (heard v front) → HasMet v front (heard v front)
 meets v front h = has_met (begins v.front front) (begins front v.front) v front refl refl h
 
--- what taking up a front leaves as it was
-pub record IsSameButFront (before after : View) : Type 0 where
-  pub key : after.key ≡ before.key
-  pub present : after.present ≡ before.present
-  pub own : after.own ≡ before.own
-
-same_by : (b c : Bool) (v : View) (front : List Update) → IsSameButFront v (heard_by b c v front)
-same_by true c v front = record { key = refl; present = refl; own = refl }
-same_by false true v front = record { key = refl; present = refl; own = refl }
-same_by false false v front = record { key = refl; present = refl; own = refl }
-
-pub heard_same : (v : View) (front : List Update) → IsSameButFront v (heard v front)
-heard_same v front = same_by (begins v.front front) (begins front v.front) v front
-
 module _ (key : Key) (books : List Book) (seats : List ℕ) (removals : List RefParts) (updates : List Update) where
+  -- a note carries no book
   note_fits : (j : ℕ) (front : List Update) → StartsWith updates front → SeatFits key books seats removals updates j (note front)
   note_fits j front starts = record {
     key_is = λ e. absurd (true≢false (sym e));
@@ -102,29 +101,32 @@ module _ (key : Key) (books : List Book) (seats : List ℕ) (removals : List Ref
     front = starts;
     noted_updates = (updates, refl);
     noted_removals = (removals, refl);
+    behind = λ p n b a e h. absurd (some-ne-none b (sym e));
   }
 
   -- the same books with other beginnings of the list of updates
-  with_lists : (j : ℕ) (v : View) (front noted : List Update) → v.present ≡ true → SeatFits key books seats removals updates j v → StartsWith updates front → StartsWith updates noted
+  with_lists : (j : ℕ) (v : View) (front noted : List Update) → v.present ≡ true → SeatFits key books seats removals updates j v → StartsWith updates front → StartsWith updates noted → length v.front ≤ length front
       → SeatFits key books seats removals updates j (record v { front = front; noted_updates = noted })
-  with_lists j v front noted present f p q = let w : View = record v { front = front; noted_updates = noted } in let same : carries w ≡ carries v = carries_own w present ∙ sym (carries_own v present) in record {
+  with_lists j v front noted present f p q long = let w : View = record v { front = front; noted_updates = noted } in let same : carries w ≡ carries v = carries_own w present ∙ sym (carries_own v present) in record {
     key_is = f.key_is;
     books_are = λ p b e. f.books_are p b (ap (λ (l : List Book). get_elem? l p) (sym same) ∙ e);
     apart = λ p q a b ea eb h. f.apart p q a b (ap (λ (l : List Book). get_elem? l p) (sym same) ∙ ea) (ap (λ (l : List Book). get_elem? l q) (sym same) ∙ eb) h;
     front = p;
     noted_updates = q;
     noted_removals = f.noted_removals;
+    behind = λ p n b a e h. let k = f.behind p n b a (ap (λ (l : List Book). get_elem? l p) (sym same) ∙ e) h in omega arith;
   }
 
-  heard_fits : (b c : Bool) (j : ℕ) (v : View) (front : List Update) → v.present ≡ true → SeatFits key books seats removals updates j v → StartsWith updates front → SeatFits key books seats removals updates j (heard_by b c v front)
-  heard_fits true c j v front present f p = with_lists j v front v.noted_updates present f p f.noted_updates
-  heard_fits false true j v front present f p = f
-  heard_fits false false j v front present f p = with_lists j v v.front front present f f.front p
+  -- a pass that took up a front fits
+  heard_fits : (b c : Bool) (j : ℕ) (v : View) (front : List Update) → begins v.front front ≡ b → v.present ≡ true → SeatFits key books seats removals updates j v → StartsWith updates front → SeatFits key books seats removals updates j (heard_by b c v front)
+  heard_fits true c j v front e present f p = with_lists j v front v.noted_updates present f p f.noted_updates (starts_long front v.front (begins_true v.front front e))
+  heard_fits false true j v front e present f p = f
+  heard_fits false false j v front e present f p = with_lists j v v.front front present f f.front p (omega arith)
 
-module _ (formed : ShapeInput → Type 0) (covered : SchemeInput → Type 0) (key : Key) where
+module _ (shape : ShapeFacts) (cover : CoverFacts) (key : Key) where
   -- the rule with other passes, which carry the same books
-  reviewed : (s : State (Unit {0}) View) (u : Rule formed covered key s) (views : List View) → ((j : ℕ) (w : View) → get_elem? views j ≡ some w → SeatFits key u.books u.seats u.removals u.updates j w)
-      → Rule formed covered key record { words = s.words; homes = s.homes; views = views }
+  reviewed : (s : State (Unit {0}) View) (u : Rule shape cover key s) (views : List View) → ((j : ℕ) (w : View) → get_elem? views j ≡ some w → SeatFits key u.books u.seats u.removals u.updates j w)
+      → Rule shape cover key record { words = s.words; homes = s.homes; views = views }
   reviewed s u views fits = record {
     records = u.records;
     books = u.books;
@@ -133,13 +135,13 @@ module _ (formed : ShapeInput → Type 0) (covered : SchemeInput → Type 0) (ke
     updates = u.updates;
     wide = u.wide;
     places = u.places;
-    shape = u.shape;
-    scheme = u.scheme;
+    parts = u.parts;
+    started = u.started;
     seated = fits;
   }
 
   -- a pass gives its front to a note
-  pub tells : (id : ℕ) (v : View) → Splits (Rule formed covered key) id v v (note v.front)
+  pub tells : (id : ℕ) (v : View) → Splits (Rule shape cover key) id v v (note v.front)
   tells id v s u at = let new : ℕ = length s.views in let Fits : ℕ → View → Type 0 = λ j x. SeatFits key u.books u.seats u.removals u.updates j x in
       reviewed s u (set s.views id v ++ note v.front ∷ []) (λ j w e. ⊎_elim
       (λ q. ⊎_elim (λ t. subst (λ (z : ℕ). Fits z w) (sym t.0) (subst (Fits id) t.1 (u.seated id v at))) (λ t. u.seated j w t.1) (at_set s.views id j v w q))
@@ -147,23 +149,23 @@ module _ (formed : ShapeInput → Type 0) (covered : SchemeInput → Type 0) (ke
       (at_end (set s.views id v) (note v.front) w j e))
 
   -- a pass takes up the front of a note, which is spent
-  pub hears : (id : ℕ) (v : View) (other : ℕ) (w : View) → v.present ≡ true → Joins (Rule formed covered key) id v other w (heard v w.front) spent
+  pub hears : (id : ℕ) (v : View) (other : ℕ) (w : View) → v.present ≡ true → Joins (Rule shape cover key) id v other w (heard v w.front) spent
   hears id v other w present s u at ne there = let there' : get_elem? s.views other ≡ some w = sym (set_else s.views id other (heard v w.front) ne) ∙ there in
       let Fits : ℕ → View → Type 0 = λ j x. SeatFits key u.books u.seats u.removals u.updates j x in
-      let mine : Fits id (heard v w.front) = heard_fits key u.books u.seats u.removals u.updates (begins v.front w.front) (begins w.front v.front) id v w.front present (u.seated id v at) (u.seated other w there').front in
+      let mine : Fits id (heard v w.front) = heard_fits key u.books u.seats u.removals u.updates (begins v.front w.front) (begins w.front v.front) id v w.front refl present (u.seated id v at) (u.seated other w there').front in
       reviewed s u (set (set s.views id (heard v w.front)) other spent) (λ j x e. ⊎_elim
       (λ t. subst (λ (z : ℕ). Fits z x) (sym t.0) (subst (Fits other) t.1 (note_fits key u.books u.seats u.removals u.updates other [] (u.updates, refl))))
       (λ t. ⊎_elim (λ q. subst (λ (z : ℕ). Fits z x) (sym q.0) (subst (Fits id) q.1 mine)) (λ q. u.seated j x q.1) (at_set s.views id j (heard v w.front) x t.1))
       (at_set (set s.views id (heard v w.front)) other j spent x e))
 
   -- a look at any word shows that the pass knows one history
-  pub looks : (slots id : ℕ) (me : Me (Unit {0}) View) (word : ℕ) → Allows (Rule formed covered key) slots id me word (λ n. n) (λ n w. (w ≡ me) × IsOneHistory me.0)
+  pub looks : (slots id : ℕ) (me : Me (Unit {0}) View) (word : ℕ) → Allows (Rule shape cover key) slots id me word (λ n. n) (λ n w. (w ≡ me) × IsOneHistory me.0)
   looks slots id me word s u wide at _ = let v : View = me.0 in let f = u.seated id v at in
       let words : set s.words word (get_or s.words word 0) ≡ s.words = set-get_or s.words word 0 in
       let views : set s.views id v ≡ s.views = ap (set s.views id) (sym (get_at s.views id v v at)) ∙ set-get_or s.views id v in (
         v,
         keeps,
         tt,
-        subst (λ (z : List ℕ × List View). Rule formed covered key record { words = z.0; homes = s.homes; views = z.1 }) (λ k. (sym words k, sym views k)) u,
+        subst (λ (z : List ℕ × List View). Rule shape cover key record { words = z.0; homes = s.homes; views = z.1 }) (λ k. (sym words k, sym views k)) u,
         (refl, one_begins u.updates v.front v.noted_updates f.front f.noted_updates),
       )

@@ -4,7 +4,7 @@ use mathlib.Core.Option.{some}
 use lib.ListN.{get_elem?}
 use Rattle.std.proofs.lemmas.List.Sums.{sum_by-set}
 use Rattle.record_memory.specs.declared.steps.Word.{Word}
-use Rattle.record_memory.specs.declared.steps.Word.TheVariants.{Drawn, Epoch, Lock, Blank, Shelf, Announced, Cursor, Field}
+use Rattle.record_memory.specs.declared.steps.Word.TheVariants.{Drawn}
 use Rattle.record_memory.specs.declared.steps.StepKind.{StepKind}
 use Rattle.record_memory.specs.declared.steps.StepKind.TheVariants.{Load, Store, Swap, Add, Exchange}
 use Rattle.record_memory.specs.declared.steps.Step.{Step}
@@ -15,11 +15,13 @@ use Rattle.record_memory.specs.declared.books.Drawing.TheVariants.{Unsure, Below
 use Rattle.record_memory.specs.Memory.{Memory}
 use Rattle.record_rule.specs.Records.{Record, share}
 use Rattle.row_words.specs.Refs.{RefParts}
-use Rattle.record_rule.specs.Inputs.{ShapeInput, shape_cell, shape_input, SchemeInput, scheme_cell, scheme_input, locks_of, guard_of}
+use Rattle.set_model.specs.declared.calls.Update.{Update}
+use Rattle.record_rule.specs.Inputs.{shape_cell, SchemeCell, scheme_cell, name_cell, guard_of, notes_of, locks_of, answered_of, outline}
 use Rattle.record_rule.specs.World.{overshoot_by, overshoot, BookFits, Places}
 use Rattle.record_rule.specs.Kinds.{drawing_found, drawing_on, drawing_after}
-use Rattle.atomic_table.proofs.Lists.{at_set}
-use Rattle.record_rule.proofs.Lists.{get_at, below_at}
+use Rattle.std.proofs.lemmas.List.{map-set}
+use Rattle.atomic_table.proofs.Lists.{at_set, at_map, set_again}
+use Rattle.record_rule.proofs.Lists.{get_at, below_at, map_set_same}
 
 -- adding is the only step after which a caller may have gone past the last record
 abbrev pub IsCalm : StepKind → Type 0
@@ -29,32 +31,29 @@ IsCalm Swap = Unit {0}
 IsCalm Add = ⊥
 IsCalm Exchange = Unit {0}
 
+-- unsure or below, a caller isn't past the last record
 unsure_or_below : (b : Bool) → overshoot_by (cond b Below Unsure) ≡ 0
 unsure_or_below true = refl
 unsure_or_below false = refl
 
+-- so it isn't after a calm step on the number of records drawn
 calm_found : (records : ℕ) (k : StepKind) (n : ℕ) → IsCalm k → overshoot_by (drawing_found records k n) ≡ 0
 calm_found records Load n h = unsure_or_below (ltb n records)
-calm_found records Store n h = refl
-calm_found records Swap n h = refl
 calm_found records Add n h = absurd h
-calm_found records Exchange n h = refl
+calm_found records k n h = refl
 
+-- nor after one on any other word
 calm_on : (records : ℕ) (k : StepKind) (w : Word) (n : ℕ) → IsCalm k → overshoot_by (drawing_on records k w n) ≡ 0
 calm_on records k Drawn n h = calm_found records k n h
-calm_on records k Epoch n h = refl
-calm_on records k Lock n h = refl
-calm_on records k Blank n h = refl
-calm_on records k (Shelf j) n h = refl
-calm_on records k (Announced j) n h = refl
-calm_on records k (Cursor c) n h = refl
-calm_on records k (Field i f) n h = refl
+calm_on records k w n h = refl
 
+-- so a calm step leaves whether it is
 pub calm_after : (d : Drawing) (records : ℕ) (t : Step) → IsCalm t.kind → overshoot_by (drawing_after d records t) ≡ overshoot_by d
 calm_after Unsure records t h = calm_on records t.kind t.word t.found h
 calm_after Below records t h = calm_on records t.kind t.word t.found h
 calm_after Past records t h = refl
 
+-- who weighs 1 went past the last record
 pub past_from : (d : Drawing) → overshoot_by d ≡ 1 → d ≡ Past
 past_from Unsure h = absurd (omega arith)
 past_from Below h = absurd (omega arith)
@@ -78,16 +77,58 @@ books_after key m m' records records' books c own more unseen mine all d b e =
     ⊎_elim (λ t. subst (λ (z : ℕ). BookFits key m' records' z b) (sym t.0) (subst (BookFits key m' records' c) t.1 mine))
     (λ t. let f = all d b t.1 in record { number = f.number; mine = f.mine ∙ sym (unseen d t.0); past = λ h. more (f.past h) }) (at_set books c d own b e)
 
--- a set's facts stand where it sees what it saw, and so do a reclaimer's
-pub shape_stays : (formed : ShapeInput → Type 0) (records records' : List Record) (removals : List RefParts) (books books' : List Book) → map shape_cell records' ≡ map shape_cell records → map locks_of books' ≡ map locks_of books
-    → formed (shape_input records removals books) → formed (shape_input records' removals books')
-shape_stays formed records records' removals books books' cells locks = let e : shape_input records removals books ≡ shape_input records' removals books' = λ k. record { cells = sym cells k; removals = removals; locks = sym locks k } in subst formed e
+-- the facts see of a record what they saw
+pub record IsSameRecord (r r' : Record) : Type 0 where
+  pub shape : shape_cell r' ≡ shape_cell r
+  pub scheme : scheme_cell r' ≡ scheme_cell r
+  pub name : name_cell r' ≡ name_cell r
 
-pub scheme_stays : (covered : SchemeInput → Type 0) (m m' : Memory) (records records' : List Record) (removals : List RefParts) (updates : ℕ) (books books' : List Book) → m'.epoch ≡ m.epoch → m'.announced ≡ m.announced
-    → map scheme_cell records' ≡ map scheme_cell records → map guard_of books' ≡ map guard_of books → covered (scheme_input m records removals updates books) → covered (scheme_input m' records' removals updates books')
-scheme_stays covered m m' records records' removals updates books books' epoch announced cells guards =
-    let e : scheme_input m records removals updates books ≡ scheme_input m' records' removals updates books' =
-    λ k. record { epoch = sym epoch k; announced = sym announced k; cells = sym cells k; removals = removals; updates = updates; guards = sym guards k } in subst covered e
+-- and of a book
+pub record IsSameBook (b b' : Book) : Type 0 where
+  pub guard : b'.guard ≡ b.guard
+  pub notes : b'.notes ≡ b.notes
+  pub locks : b'.locks ≡ b.locks
+  pub answered : b'.answered ≡ b.answered
+
+-- so they see what they saw, after a step that changed one record and one book so, or one book alone
+module _ (m m' : Memory) (removals : List RefParts) (updates : List Update) (epoch : m'.epoch ≡ m.epoch) (announced : m'.announced ≡ m.announced) (books : List Book) (c : ℕ) (b own : Book) (at : get_elem? books c ≡ some b) (same : IsSameBook b own) where
+  -- where no record changed
+  pub outline_same : (records : List Record) → outline m' records (set books c own) removals updates ≡ outline m records books removals updates
+  outline_same records = λ k. record {
+    shapes = map shape_cell records;
+    schemes = map scheme_cell records;
+    names = map name_cell records;
+    epoch = epoch k;
+    announced = announced k;
+    removals = removals;
+    updates = updates;
+    guards = map_set_same guard_of books c b own at same.guard k;
+    notes = map_set_same notes_of books c b own at same.notes k;
+    locks = map_set_same locks_of books c b own at same.locks k;
+    answered = map_set_same answered_of books c b own at same.answered k;
+  }
+
+  -- or after one that changed what the reclaimer's facts see of one record
+  pub outline_scheme : (records : List Record) (i : ℕ) (r r' : Record) (cell : SchemeCell) → get_elem? records i ≡ some r → shape_cell r' ≡ shape_cell r → scheme_cell r' ≡ cell → name_cell r' ≡ name_cell r
+      → record (outline m records books removals updates) { schemes = set (map scheme_cell records) i cell } ≡ outline m' (set records i r') (set books c own) removals updates
+  outline_scheme records i r r' cell there shape_is scheme_is name_is = λ k. record {
+    shapes = sym (map_set_same shape_cell records i r r' there shape_is) k;
+    schemes = sym (map-set scheme_cell records i r' ∙ ap (set (map scheme_cell records) i) scheme_is) k;
+    names = sym (map_set_same name_cell records i r r' there name_is) k;
+    epoch = sym epoch k;
+    announced = sym announced k;
+    removals = removals;
+    updates = updates;
+    guards = sym (map_set_same guard_of books c b own at same.guard) k;
+    notes = sym (map_set_same notes_of books c b own at same.notes) k;
+    locks = sym (map_set_same locks_of books c b own at same.locks) k;
+    answered = sym (map_set_same answered_of books c b own at same.answered) k;
+  }
+
+  -- or where no fact sees a change of the record
+  pub outline_after : (records : List Record) (i : ℕ) (r r' : Record) → get_elem? records i ≡ some r → IsSameRecord r r' → outline m' (set records i r') (set books c own) removals updates ≡ outline m records books removals updates
+  outline_after records i r r' there alike = sym (outline_scheme records i r r' (scheme_cell r) there alike.shape alike.scheme alike.name)
+      ∙ ap (λ (l : List SchemeCell). record (outline m records books removals updates) { schemes = l }) (set_again (map scheme_cell records) i (scheme_cell r) (at_map scheme_cell records i r there))
 
 -- a step after which all records and all words are as before
 pub places_calm : (key : Key) (records : List Record) (books : List Book) (m : Memory) (c : ℕ) (b own : Book) → get_elem? books c ≡ some b → own.caller ≡ b.caller → own.mine ≡ b.mine

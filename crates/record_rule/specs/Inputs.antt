@@ -1,7 +1,10 @@
--- What a set's facts and a reclaimer's facts may depend on. All else is masked out, so that a step which changes nothing of it keeps these facts.
-use Rattle.std.specs.Prelude.{ℕ, List, map, drop, slice_index_or}
+-- What the facts of the rule may depend on. All else is masked out, so that a step which changes nothing of it keeps them.
+use Rattle.std.specs.Prelude.{ℕ, ◌+◌, List, map, drop, slice_index_or}
+use Rattle.set_model.specs.declared.calls.Update.{Update}
+use Rattle.record_memory.specs.declared.books.Answered.{Answered}
 use Rattle.record_memory.specs.declared.books.Book.{Book}
 use Rattle.record_memory.specs.declared.books.Guard.{Guard}
+use Rattle.record_memory.specs.declared.books.Note.{Note}
 use Rattle.record_memory.specs.declared.books.Standing.{Standing}
 use Rattle.record_memory.specs.declared.books.Standing.TheVariants.{Handing, Own, Spare, TakenOut, Limbo, Free, Spent}
 use Rattle.record_memory.specs.declared.books.Place.{Place}
@@ -38,19 +41,6 @@ shape_at (Of c s) r = shape_had s r
 
 abbrev pub shape_cell : Record → ShapeCell
 shape_cell r = shape_at r.place r
-
-pub record ShapeInput : Type 0 where
-  pub cells : List ShapeCell
-  -- the records that were taken out, in order
-  pub removals : List RefParts
-  -- the link words that each caller has locked
-  pub locks : List (List Word)
-
-abbrev pub locks_of : Book → List Word
-locks_of b = b.locks
-
-abbrev pub shape_input : List Record → List RefParts → List Book → ShapeInput
-shape_input records removals books = record { cells = map shape_cell records; removals = removals; locks = map locks_of books }
 
 -- a record as the reclaimer's facts see it
 pub data SchemeCell : Type 0 where
@@ -90,17 +80,109 @@ scheme_at (Of c s) r = scheme_had c s r
 abbrev pub scheme_cell : Record → SchemeCell
 scheme_cell r = scheme_at r.place r
 
+-- a record as the list of those taken out sees it
+pub data NameCell : Type 0 where
+  -- at this generation it wasn't taken out
+  unnamed : ℕ → NameCell
+  -- at this generation it was, so many before it
+  named : ℕ → ℕ → NameCell
+
+abbrev pub name_had : Standing → Record → NameCell
+name_had (Handing n) r = unnamed r.era
+name_had Own r = unnamed r.era
+name_had Spare r = unnamed r.era
+name_had TakenOut r = named r.era r.removed
+name_had Limbo r = named r.era r.removed
+name_had Free r = named r.era r.removed
+name_had Spent r = named r.era r.removed
+
+-- of a record that was never handed out, the first generation
+abbrev pub name_at : Place → Record → NameCell
+name_at Undrawn r = unnamed (r.era + 1)
+name_at Root r = unnamed r.era
+name_at Linked r = unnamed r.era
+name_at (Shelved k) r = named r.era r.removed
+name_at (Of c s) r = name_had s r
+
+abbrev pub name_cell : Record → NameCell
+name_cell r = name_at r.place r
+
+-- All that the facts read
+pub record Outline : Type 0 where
+  -- the records, as each part sees them
+  pub shapes : List ShapeCell
+  pub schemes : List SchemeCell
+  pub names : List NameCell
+  pub epoch : ℕ
+  pub announced : List ℕ
+  -- the records that were taken out, and the updates that took effect, each in order
+  pub removals : List RefParts
+  pub updates : List Update
+  -- of each caller: its guard, what it knows of what it holds, the link words that it has locked, and its answered calls
+  pub guards : List Guard
+  pub notes : List (List Note)
+  pub locks : List (List Word)
+  pub answered : List (List Answered)
+
+abbrev pub guard_of : Book → Guard
+guard_of b = b.guard
+
+abbrev pub notes_of : Book → List Note
+notes_of b = b.notes
+
+abbrev pub locks_of : Book → List Word
+locks_of b = b.locks
+
+abbrev pub answered_of : Book → List Answered
+answered_of b = b.answered
+
+abbrev pub outline : Memory → List Record → List Book → List RefParts → List Update → Outline
+outline m records books removals updates = record {
+  shapes = map shape_cell records;
+  schemes = map scheme_cell records;
+  names = map name_cell records;
+  epoch = m.epoch;
+  announced = m.announced;
+  removals = removals;
+  updates = updates;
+  guards = map guard_of books;
+  notes = map notes_of books;
+  locks = map locks_of books;
+  answered = map answered_of books;
+}
+
+-- what a set's facts about the records read
+pub record ShapeInput : Type 0 where
+  pub cells : List ShapeCell
+  pub removals : List RefParts
+  pub locks : List (List Word)
+
+abbrev pub shape_input : Outline → ShapeInput
+shape_input o = record { cells = o.shapes; removals = o.removals; locks = o.locks }
+
+-- how many records were taken out and how many updates took effect when a guard started
+pub record Start : Type 0 where
+  pub removals : ℕ
+  pub updates : ℕ
+
+abbrev pub start_of : Guard → Start
+start_of g = record { removals = g.start_removals; updates = g.start_updates }
+
+-- what a set's facts about its history read beside that
+pub record Trace : Type 0 where
+  pub updates : List Update
+  pub starts : List Start
+
+abbrev pub trace : Outline → Trace
+trace o = record { updates = o.updates; starts = map start_of o.guards }
+
+-- what a reclaimer's facts read
 pub record SchemeInput : Type 0 where
   pub epoch : ℕ
   pub announced : List ℕ
   pub cells : List SchemeCell
   pub removals : List RefParts
-  -- how many updates took effect
-  pub updates : ℕ
   pub guards : List Guard
 
-abbrev pub guard_of : Book → Guard
-guard_of b = b.guard
-
-abbrev pub scheme_input : Memory → List Record → List RefParts → ℕ → List Book → SchemeInput
-scheme_input m records removals updates books = record { epoch = m.epoch; announced = m.announced; cells = map scheme_cell records; removals = removals; updates = updates; guards = map guard_of books }
+abbrev pub scheme_input : Outline → SchemeInput
+scheme_input o = record { epoch = o.epoch; announced = o.announced; cells = o.schemes; removals = o.removals; guards = o.guards }

@@ -17,7 +17,7 @@ use Rattle.record_memory.specs.declared.books.Drawing.{Drawing}
 use Rattle.record_memory.specs.declared.books.Drawing.TheVariants.{Unsure, Below, Past}
 use Rattle.record_memory.specs.Memory.{word_at}
 use Rattle.row_words.specs.Packing.{own_in, IsPackedLink}
-use Rattle.record_rule.specs.Records.{blank_row}
+use Rattle.record_rule.specs.Records.{blank_row, IsLinkField}
 
 -- what the caller knows of record i
 abbrev pub share_in : View → ℕ → Option Share
@@ -109,7 +109,7 @@ pub record MayStore (h : Share) (f value : ℕ) : Type 0 where
   pub field : MayStoreAs h.standing f
   pub below : f < 8
   pub own : own_in value ≡ h.era
-  pub link : f ≡ 1 → IsPackedLink value
+  pub link : IsLinkField f → IsPackedLink value
 
 -- the eighth word ends the handing out
 abbrev pub standing_after : Standing → Standing
@@ -120,6 +120,15 @@ standing_after TakenOut = TakenOut
 standing_after Limbo = Limbo
 standing_after Free = Free
 standing_after Spent = Spent
+
+abbrev pub EndsHanding : Standing → Type 0
+EndsHanding (Handing n) = n ≡ 7
+EndsHanding Own = ⊥
+EndsHanding Spare = ⊥
+EndsHanding TakenOut = ⊥
+EndsHanding Limbo = ⊥
+EndsHanding Free = ⊥
+EndsHanding Spent = ⊥
 
 abbrev pub share_after : Share → ℕ → ℕ → Share
 share_after h f value = record h { standing = standing_after h.standing; words = slice_set h.words f value }
@@ -193,3 +202,8 @@ noted v t = advanced v t v.own.mine
 abbrev pub Permits : (State (Unit {0}) View → Type 0) → ℕ → View → StepKind → ℕ → (ℕ → ℕ) → Type 0
 Permits holds id v kind word f = (s : State (Unit {0}) View) → holds s → get_elem? s.views id ≡ some v
     → holds record { words = slice_set s.words word (f (slice_index s.words word)); homes = s.homes; views = slice_set s.views id (noted v (control_step v kind word (slice_index s.words word) (f (slice_index s.words word)))) }
+
+-- Whatever the table is, the pass in seat id, which knows v, can know something afterwards of which `told` holds with the value found, and the rule stays, when this word becomes f of what it was
+abbrev pub Lawful : (State (Unit {0}) View → Type 0) → ℕ → View → ℕ → (ℕ → ℕ) → (ℕ → View → Type 0) → Type 0
+Lawful holds id v word f told = (s : State (Unit {0}) View) → holds s → get_elem? s.views id ≡ some v
+    → (w : View) × holds record { words = slice_set s.words word (f (slice_index s.words word)); homes = s.homes; views = slice_set s.views id w } × told (slice_index s.words word) w

@@ -1,5 +1,5 @@
 -- The records of a table with where each is, and what a caller that has a record knows of it.
-use Rattle.std.specs.Prelude.{◌≡◌, ℕ, ◌+◌, ◌-◌, ◌<◌, ◌≤◌, ◌^◌, ◌≢◌, List, length, take, replicate, Option, Some, None, slice_index_or, nat_lt, ◌==◌, if◌then◌else◌}
+use Rattle.std.specs.Prelude.{◌≡◌, ℕ, ◌+◌, ◌-◌, ◌<◌, ◌≤◌, ◌^◌, ◌≢◌, ◌⊎◌, List, length, take, replicate, Option, Some, None, slice_index_or, nat_lt, ◌==◌, if◌then◌else◌}
 use Rattle.record_memory.specs.declared.books.Key.{Key}
 use Rattle.record_memory.specs.declared.books.Standing.{Standing}
 use Rattle.record_memory.specs.declared.books.Standing.TheVariants.{Handing, Own, Spare, TakenOut, Limbo, Free, Spent}
@@ -71,17 +71,22 @@ carried Linked era f = era
 carried (Shelved k) era f = era
 carried (Of c s) era f = carried_by s era f
 
+-- the words that hold links: a chain's and a set's
+abbrev pub IsLinkField : ℕ → Type 0
+IsLinkField f = (f ≡ 1) ⊎ (f ≡ 3)
+
 -- what holds of the record with the index i + 1, wherever it is
 pub record IsSound (key : Key) (i : ℕ) (r : Record) : Type 0 where
   pub eight : length r.row ≡ 8
   -- all eight words carry its generation, but for those that its owner has still to store while it hands it out
   pub generations : (f : ℕ) → f < 8 → own_in (slice_index_or r.row f 0) ≡ carried r.place r.era f
-  -- word 1 holds a link
-  pub chained : IsPackedLink (slice_index_or r.row 1 0)
+  -- words 1 and 3 hold links
+  pub links : (f : ℕ) → IsLinkField f → IsPackedLink (slice_index_or r.row f 0)
   pub within : r.era < 2 ^ 20
   -- the roots are the first records and never move
   pub roots : i < key.roots → r.place ≡ Root
   pub no_root : r.place ≡ Root → i < key.roots
+  pub root_era : r.place ≡ Root → r.era ≡ key.first
   -- a record that was never handed out has the generation before the first one
   pub unborn : r.place ≡ Undrawn → r.era + 1 ≡ key.first
   pub blank : r.place ≡ Undrawn → r.row ≡ blank_row key.first

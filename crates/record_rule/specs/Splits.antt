@@ -1,9 +1,10 @@
 -- What two passes know after one was split off, and what a pass knows that another was joined into.
-use Rattle.std.specs.Prelude.{List, [], ◌∷◌, ◌++◌, length, nat_lt, if◌then◌else◌, false}
+use Rattle.std.specs.Prelude.{List, [], ◌∷◌, ◌++◌, length, nat_lt, if◌then◌else◌, None, false}
 use Rattle.set_model.specs.declared.names.AllocatorName.TheVariants.{Bump}
 use Rattle.record_memory.specs.declared.books.Key.{Key}
 use Rattle.record_memory.specs.declared.books.View.{View}
 use Rattle.record_memory.specs.declared.books.Book.{Book}
+use Rattle.record_memory.specs.declared.books.Guard.{Guard}
 use Rattle.record_rule.specs.World.{carries}
 use Rattle.record_rule.specs.Opening.{first_book}
 
@@ -40,5 +41,8 @@ joined v w = record v {
 abbrev pub no_key : Key
 no_key = record { records = 0; roots = 0; callers = 0; first = 0; allocator = Bump }
 
+abbrev pub no_guard : Guard
+no_guard = record { inside = false; start_removals = 0; start_updates = 0; start_step = 0; holds = []; pending = None; epoch = 0; readings = []; reading_removals = 0; scan_place = 0; loaded = [] }
+
 abbrev pub spent : View
-spent = record { key = no_key; present = false; alone = false; own = first_book no_key 0; others = []; front = []; noted_updates = []; noted_removals = [] }
+spent = record { key = no_key; present = false; alone = false; own = first_book no_key no_guard 0; others = []; front = []; noted_updates = []; noted_removals = [] }

@@ -15,7 +15,14 @@ use Rattle.record_memory.specs.declared.books.Place.TheVariants.{Undrawn}
 use Rattle.record_memory.specs.Memory.{Memory, memory, size}
 use Rattle.row_words.specs.Refs.{RefParts}
 use Rattle.record_rule.specs.Records.{Record, IsSound, share}
-use Rattle.record_rule.specs.Inputs.{ShapeInput, shape_input, SchemeInput, scheme_input}
+use Rattle.record_memory.specs.declared.books.Guard.{Guard}
+use Rattle.record_memory.specs.declared.books.Note.{Note}
+use Rattle.record_memory.specs.declared.books.Answered.{Answered}
+use Rattle.record_rule.specs.Inputs.{Outline, outline, shape_input, scheme_input, trace}
+use Rattle.record_rule.specs.Facts.{At, ShapeFacts, CoverFacts}
+use Rattle.record_rule.specs.Taken.{TakenFits}
+use Rattle.record_rule.specs.Held.{HeldFits}
+use Rattle.record_rule.specs.Histories.{HistoryFits, after}
 
 -- a list begins with another
 abbrev pub StartsWith : {A : Type 0} → List A → List A → Type 0
@@ -64,6 +71,8 @@ pub record SeatFits (key : Key) (books : List Book) (seats : List ℕ) (removals
   pub front : StartsWith updates v.front
   pub noted_updates : StartsWith updates v.noted_updates
   pub noted_removals : StartsWith removals v.noted_removals
+  -- the pass has seen what comes before the place of each call that a caller whose book it carries had answered
+  pub behind : (p n : ℕ) (b : Book) (a : Answered) → At (carries v) p b → At b.answered n a → after a ≤ length v.front
 
 module _ (key : Key) (records : List Record) (books : List Book) where
   -- where each record is
@@ -79,7 +88,16 @@ module _ (key : Key) (records : List Record) (books : List Book) where
     pub callers : length books ≡ key.callers
     pub books_fit : (c : ℕ) (b : Book) → get_elem? books c ≡ some b → BookFits key m records c b
 
-pub record Rule (formed : ShapeInput → Type 0) (covered : SchemeInput → Type 0) (key : Key) (s : State (Unit {0}) View) : Type 0 where
+-- what holds of the records, of what callers hold and of the history
+pub record Parts (s : ShapeFacts) (c : CoverFacts) (key : Key) (o : Outline) : Type 0 where
+  pub taken : TakenFits key o.names o.removals
+  pub held : (d : ℕ) (g : Guard) (notes : List Note) → At o.guards d g → At o.notes d notes → HeldFits s c.places o.shapes (length o.removals) g notes
+  pub shape : s.formed key (shape_input o)
+  pub told : s.told key (shape_input o) (trace o)
+  pub scheme : c.covered key (scheme_input o)
+  pub history : HistoryFits s o.updates o.answered
+
+pub record Rule (s : ShapeFacts) (c : CoverFacts) (key : Key) (t : State (Unit {0}) View) : Type 0 where
   pub records : List Record
   -- by caller: its book, and the seat that carries it
   pub books : List Book
@@ -87,8 +105,9 @@ pub record Rule (formed : ShapeInput → Type 0) (covered : SchemeInput → Type
   -- the records that were taken out, and the updates that took effect, each in order
   pub removals : List RefParts
   pub updates : List Update
-  pub wide : length s.words ≡ size key.callers key.records
-  pub places : Places key records books (memory key.callers key.records s.words)
-  pub shape : formed (shape_input records removals books)
-  pub scheme : covered (scheme_input (memory key.callers key.records s.words) records removals (length updates) books)
-  pub seated : (j : ℕ) (v : View) → get_elem? s.views j ≡ some v → SeatFits key books seats removals updates j v
+  pub wide : length t.words ≡ size key.callers key.records
+  pub places : Places key records books (memory key.callers key.records t.words)
+  pub parts : Parts s c key (outline (memory key.callers key.records t.words) records books removals updates)
+  -- no guard started at a step that is still to come
+  pub started : (c : ℕ) (b : Book) → At books c b → b.guard.start_step ≤ length b.steps
+  pub seated : (j : ℕ) (v : View) → get_elem? t.views j ≡ some v → SeatFits key books seats removals updates j v

@@ -5,11 +5,25 @@ use std::marker::PhantomData;
 
 /// What a concurrent structure is made of: which records are linked, which keys they stand for, and
 /// which steps are lawful. It has no function that runs.
-pub trait Shape {}
+pub trait Shape {
+    ghost use Rattle.record_rule.specs.Facts.{ShapeFacts};
+    ghost use Rattle.record_rule.specs.Laws.{ShapeLaws};
+
+    ghost facts: { ShapeFacts };
+
+    ghost laws: { ShapeLaws facts };
+}
 
 /// What a reclaimer covers: which records no caller frees while a guard may reach them, and which
 /// facts keep that. It has no function that runs.
-pub trait Cover {}
+pub trait Cover {
+    ghost use Rattle.record_rule.specs.Facts.{CoverFacts};
+    ghost use Rattle.record_rule.specs.Laws.{CoverLaws};
+
+    ghost facts: { CoverFacts };
+
+    ghost laws: { CoverLaws facts };
+}
 
 /// The rule of the one table.
 pub struct World<S, R> {
@@ -20,7 +34,7 @@ impl<S: Shape, R: Cover> TableRule<(), View, Key> for World<S, R> {
     ghost use Rattle.record_rule.specs.World.{Rule};
     ghost use Rattle.record_rule.specs.Opening.{first_view};
 
-    ghost holds = { λ key. Rule (λ _. Unit {0}) (λ _. Unit {0}) key };
+    ghost holds = { λ key. Rule S.facts R.facts key };
 
-    ghost first = { first_view };
+    ghost first = { first_view R.facts.first };
 }

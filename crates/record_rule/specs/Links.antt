@@ -1,0 +1,267 @@
+-- Steps on the words of roots and of records that a caller holds, and what its pass knows afterwards.
+use Rattle.std.specs.Prelude.{◌≡◌, ◌≢◌, ℕ, ◌+◌, ◌-◌, ◌<◌, ◌≤◌, List, [], ◌∷◌, ◌++◌, length, Bool, true, false, Option, Some, None, slice_index_or, slice_set, ◌==◌, if◌then◌else◌}
+use Rattle.set_model.specs.declared.calls.Call.{Call}
+use Rattle.set_model.specs.declared.calls.Call.TheVariants.{Insert, Remove, Search}
+use Rattle.set_model.specs.declared.calls.Update.{Update}
+use Rattle.record_memory.specs.declared.steps.Word.TheVariants.{Field}
+use Rattle.record_memory.specs.declared.steps.StepKind.{StepKind}
+use Rattle.record_memory.specs.declared.steps.StepKind.TheVariants.{Load, Exchange}
+use Rattle.record_memory.specs.declared.steps.Step.{Step}
+use Rattle.record_memory.specs.declared.books.Key.{Key}
+use Rattle.record_memory.specs.declared.books.View.{View}
+use Rattle.record_memory.specs.declared.books.Book.{Book}
+use Rattle.record_memory.specs.declared.books.Note.{Note}
+use Rattle.record_memory.specs.declared.books.Share.{Share}
+use Rattle.record_memory.specs.declared.books.Answered.{Answered}
+use Rattle.record_memory.specs.declared.books.Standing.TheVariants.{TakenOut, Limbo}
+use Rattle.row_words.specs.Refs.{RefParts, LinkParts}
+use Rattle.row_words.specs.Packing.{link_in, packed_link, packed_number, own_in, IsPackedLink}
+use Rattle.record_rule.specs.Inputs.{start_of}
+use Rattle.record_rule.specs.Facts.{At, word_in, mark_bit, clean, Near, at_root, at_held, ShapeFacts, FitsNote, update_for, Reach, CoverFacts}
+use Rattle.record_rule.specs.Laws.{root_at, with_update}
+use Rattle.record_rule.specs.Opening.{no_note}
+use Rattle.record_rule.specs.World.{StartsWith}
+use Rattle.record_rule.specs.Kinds.{share_in, idle, drawing_after, field_store}
+
+-- the node that a step is on: a root by its number from 0, or the record that the caller holds at a place
+pub data Origin : Type 0 where
+  from_root : ℕ → Origin
+  from_place : ℕ → RefParts → Origin
+
+abbrev pub index_of : Origin → ℕ
+index_of (from_root n) = n + 1
+index_of (from_place p r) = r.index
+
+-- its generation
+abbrev pub era_at : Key → Origin → ℕ
+era_at key (from_root n) = key.first
+era_at key (from_place p r) = r.generation
+
+abbrev pub held_at : Origin → Option RefParts
+held_at (from_root n) = None
+held_at (from_place p r) = Some r
+
+abbrev pub note_in : List Note → ℕ → Note
+note_in notes p = slice_index_or notes p no_note
+
+-- what the caller knows of it
+abbrev pub near_of : View → Origin → Near
+near_of v (from_root n) = at_root n
+near_of v (from_place p r) = at_held r (note_in v.own.notes p)
+
+-- the table has the root, or the caller holds the record there
+abbrev pub Holds : View → Origin → Type 0
+Holds v (from_root n) = n < v.key.roots
+Holds v (from_place p r) = At v.own.guard.holds p (Some r)
+
+-- what a caller knows of a node's body agrees with it
+abbrev pub FitsBody : ShapeFacts → Near → List ℕ → Type 0
+FitsBody s (at_root n) body = Unit {0}
+FitsBody s (at_held r note) body = FitsNote s note body
+
+-- the next node of a link: what the caller holds of its target, where it has one
+pub data IsNextOf (v : View) : Option RefParts → Option Near → Type 0 where
+  at_end : IsNextOf v None None
+  at_place : (p : ℕ) (r : RefParts) → Holds v (from_place p r) → IsNextOf v (Some r) (Some (near_of v (from_place p r)))
+
+-- a step decides no search
+abbrev pub IsDecision : Option Call → Type 0
+IsDecision None = Unit {0}
+IsDecision (Some (Insert k)) = Unit {0}
+IsDecision (Some (Remove k)) = Unit {0}
+IsDecision (Some (Search k)) = ⊥
+
+-- a step on word f of the node, which found and left these
+abbrev pub node_step : View → StepKind → Origin → ℕ → ℕ → ℕ → Step
+node_step v kind o f found left = record { kind = kind; word = Field (index_of o) f; held = held_at o; found = found; left = left; idle = idle v.own }
+
+-- the caller's book with one more step
+abbrev pub with_step : Book → ℕ → Step → Book
+with_step b records t = record b { steps = b.steps ++ t ∷ []; drawing = drawing_after b.drawing records t }
+
+-- the pass has seen the two whole lists
+abbrev pub seeing : View → List Update → List RefParts → Book → View
+seeing v updates removals own = record v { own = own; noted_updates = updates; noted_removals = removals }
+
+-- what it had seen of them begins them
+pub record AreWhole (v : View) (updates : List Update) (removals : List RefParts) : Type 0 where
+  pub front : StartsWith updates v.front
+  pub seen_updates : StartsWith updates v.noted_updates
+  pub seen_removals : StartsWith removals v.noted_removals
+
+-- The key of a held record is loaded: it is the one that is known
+pub record LoadedKey (v : View) (p : ℕ) (r : RefParts) (n : ℕ) (w : View) : Type 0 where
+  pub known : At (note_in v.own.notes p).words 1 (Some n)
+  pub view : w ≡ record v { own = with_step v.own v.key.records (node_step v Load (from_place p r) 4 n n) }
+
+-- word f of a held record is noted, where it is settled
+abbrev pub note_word : Note → ℕ → ℕ → Note
+note_word note f n = record note { words = slice_set note.words (f - 3) (Some n) }
+
+abbrev pub noting : Bool → List Note → Origin → ℕ → ℕ → List Note
+noting true notes (from_root m) f n = notes
+noting true notes (from_place p r) f n = slice_set notes p (note_word (note_in notes p) f n)
+noting false notes o f n = notes
+
+-- What one load of a link that found n shows, where so many updates took effect: the node's body, and what the set says of such a load
+pub record Saw (s : ShapeFacts) (v : View) (o : Origin) (f n : ℕ) (target : Option (List ℕ)) (updates : List Update) : Type 0 where
+  pub body : List ℕ
+  pub word : word_in body f ≡ n
+  pub fits : FitsBody s (near_of v o) body
+  pub marked : ℕ
+  pub shown : s.shown v.key (record { node = root_at s (near_of v o); body = body; field = f; target = target; marked = marked; start = start_of v.own.guard }) updates
+
+-- A link is loaded
+pub record LoadedLink (s : ShapeFacts) (v : View) (o : Origin) (f n : ℕ) (w : View) : Type 0 where
+  pub updates : List Update
+  pub removals : List RefParts
+  pub whole : AreWhole v updates removals
+  pub saw : Saw s v o f n None updates
+  pub link : IsPackedLink n
+  pub view : w ≡ seeing v updates removals (record (with_step v.own v.key.records (node_step v Load o f n n)) { notes = noting (s.settled f saw.body) v.own.notes o f n })
+
+-- the record that a caller may hold once it loaded this link: its target, unless the node is marked
+abbrev pub target_of : LinkParts → Option RefParts
+target_of l = if mark_bit l == 1 then None else l.target
+
+-- what is known of a record with this body from the load that reached it
+abbrev pub settled_word : ShapeFacts → List ℕ → ℕ → Option ℕ
+settled_word s body f = if s.settled f body then Some (word_in body f) else None
+
+abbrev pub note_of : ShapeFacts → Option (List ℕ) → ℕ → Note
+note_of s None updates = no_note
+note_of s (Some body) updates = record { words = settled_word s body 3 ∷ settled_word s body 4 ∷ settled_word s body 5 ∷ settled_word s body 6 ∷ settled_word s body 7 ∷ []; reached_at = updates }
+
+-- the target was found there where there is one
+abbrev pub IsFound : Option RefParts → Option (List ℕ) → Type 0
+IsFound None body = body ≡ None
+IsFound (Some t) body = (b : List ℕ) × (body ≡ Some b)
+
+-- A link is loaded to reach what it leads to
+pub record ReachedLink (s : ShapeFacts) (c : CoverFacts) (v : View) (o : Origin) (f : ℕ) (q : Reach) (n : ℕ) (w : View) : Type 0 where
+  pub updates : List Update
+  pub removals : List RefParts
+  pub whole : AreWhole v updates removals
+  pub target : Option (List ℕ)
+  pub found : IsFound (target_of (link_in n)) target
+  pub within : (t : RefParts) → target_of (link_in n) ≡ Some t → t.index ≤ v.key.records
+  -- the guard has its places, each with a note, and started before
+  pub many : length v.own.guard.holds ≡ c.places
+  pub noted : length v.own.notes ≡ c.places
+  pub late : v.own.guard.start_step ≤ length v.own.steps
+  pub saw : Saw s v o f n target updates
+  pub link : IsPackedLink n
+  pub epoch : ℕ
+  pub view : w ≡ seeing v updates removals (record (with_step v.own v.key.records (node_step v Load o f n n)) {
+    guard = c.reached (record { epoch = epoch; removals = length removals; updates = length updates }) v.own.guard q (target_of (link_in n));
+    notes = slice_set v.own.notes q.place (note_of s target (length updates));
+  })
+
+-- the entry of a call that a step decides when so many updates took effect
+abbrev pub entry_for : ℕ → Option Call → List Answered
+entry_for position None = []
+entry_for position (Some call) = record { call = call; reply = true; decided = true; position = position } ∷ []
+
+-- the front, where the step decides a call: the whole list
+abbrev pub front_for : List Update → List Update → Option Call → List Update
+front_for front updates None = front
+front_for front updates (Some call) = updates
+
+-- the update that a step of the caller's decides
+abbrev pub own_update : View → Option Call → Option Update
+own_update v call = update_for v.own.caller (length v.own.answered + 1) call
+
+-- the pass after a step that leaves a link and may decide a call
+abbrev pub decided : View → List Update → List RefParts → Option Call → Book → View
+decided v updates removals call own = record v {
+  own = record own { answered = v.own.answered ++ entry_for (length updates) call };
+  front = front_for v.front (with_update updates (own_update v call)) call;
+  noted_updates = with_update updates (own_update v call);
+  noted_removals = removals;
+}
+
+-- an exchange of a link was refused: the word held another link
+pub record RefusedLink (v : View) (o : Origin) (f n : ℕ) (w : View) : Type 0 where
+  pub link : IsPackedLink n
+  -- under the node's generation
+  pub own : own_in n ≡ era_at v.key o
+  pub view : w ≡ record v { own = with_step v.own v.key.records (node_step v Exchange o f n n) }
+
+-- the two values of the word in an exchange between links
+abbrev pub link_word : Key → Origin → LinkParts → ℕ
+link_word key o l = packed_link (era_at key o) l
+
+-- An exchange of a link is made
+pub record ExchangedLink (s : ShapeFacts) (v : View) (o : Origin) (f : ℕ) (old new : LinkParts) (call : Option Call) (w : View) : Type 0 where
+  pub updates : List Update
+  pub removals : List RefParts
+  pub whole : AreWhole v updates removals
+  -- the node's body afterwards
+  pub body : List ℕ
+  pub word : word_in body f ≡ link_word v.key o new
+  pub view : w ≡ decided v updates removals call (record (with_step v.own v.key.records (node_step v Exchange o f (link_word v.key o old) (link_word v.key o new))) { notes = noting (s.settled f body) v.own.notes o f (link_word v.key o new) })
+
+-- What an exchange of a link tells, which found n
+pub record ToldExchange (s : ShapeFacts) (v : View) (o : Origin) (f : ℕ) (old new : LinkParts) (call : Option Call) (n : ℕ) (w : View) : Type 0 where
+  pub made : n ≡ link_word v.key o old → ExchangedLink s v o f old new call w
+  pub refused : n ≢ link_word v.key o old → RefusedLink v o f n w
+
+-- An own record is linked behind the node
+pub record PublishedLink (s : ShapeFacts) (v : View) (o : Origin) (f : ℕ) (old : LinkParts) (own : RefParts) (call : Option Call) (w : View) : Type 0 where
+  pub updates : List Update
+  pub removals : List RefParts
+  pub whole : AreWhole v updates removals
+  pub body : List ℕ
+  pub word : word_in body f ≡ link_word v.key o (clean own)
+  pub view : w ≡ decided v updates removals call (record (with_step v.own v.key.records (node_step v Exchange o f (link_word v.key o old) (link_word v.key o (clean own)))) {
+    mine = slice_set v.own.mine (own.index - 1) None;
+    notes = noting (s.settled f body) v.own.notes o f (link_word v.key o (clean own));
+  })
+
+pub record ToldPublish (s : ShapeFacts) (v : View) (o : Origin) (f : ℕ) (old : LinkParts) (own : RefParts) (call : Option Call) (n : ℕ) (w : View) : Type 0 where
+  pub made : n ≡ link_word v.key o old → PublishedLink s v o f old own call w
+  pub refused : n ≢ link_word v.key o old → RefusedLink v o f n w
+
+-- A held record is taken out behind the node
+pub record UnlinkedRecord (s : ShapeFacts) (v : View) (o : Origin) (f : ℕ) (gone : RefParts) (new : LinkParts) (w : View) : Type 0 where
+  pub updates : List Update
+  pub removals : List RefParts
+  pub whole : AreWhole v updates removals
+  pub body : List ℕ
+  pub word : word_in body f ≡ link_word v.key o new
+  -- the first three words of the record that was taken out
+  pub words : List ℕ
+  pub three : length words ≡ 3
+  -- the caller's book has an entry for it, as for each record
+  pub within : gone.index ≤ v.key.records
+  pub mine : length v.own.mine ≡ v.key.records
+  pub view : w ≡ seeing v updates (removals ++ gone ∷ []) (record (with_step v.own v.key.records (node_step v Exchange o f (link_word v.key o (clean gone)) (link_word v.key o new))) {
+    mine = slice_set v.own.mine (gone.index - 1) (Some (record { standing = TakenOut; era = gone.generation; removed = length removals; words = words }));
+    notes = noting (s.settled f body) v.own.notes o f (link_word v.key o new);
+  })
+
+pub record ToldUnlink (s : ShapeFacts) (v : View) (o : Origin) (f : ℕ) (gone : RefParts) (new : LinkParts) (n : ℕ) (w : View) : Type 0 where
+  pub made : n ≡ link_word v.key o (clean gone) → UnlinkedRecord s v o f gone new w
+  pub refused : n ≢ link_word v.key o (clean gone) → RefusedLink v o f n w
+
+-- the caller took the record out and didn't retire it
+pub record HasTaken (v : View) (r : RefParts) (share : Share) : Type 0 where
+  pub within : r.index ≤ v.key.records
+  pub known : share_in v r.index ≡ Some share
+  pub standing : share.standing ≡ TakenOut
+  pub era : share.era ≡ r.generation
+  pub three : length share.words ≡ 3
+
+-- A record that was taken out is retired: its stamp is stored
+abbrev pub retired_share : Share → ℕ → Share
+retired_share h value = record h { standing = Limbo; words = slice_set h.words 2 value }
+
+abbrev pub retired_with : View → RefParts → Share → ℕ → View
+retired_with v r h value = record v { own = record (with_step v.own v.key.records (field_store v r.index 2 value h)) { mine = slice_set v.own.mine (r.index - 1) (Some (retired_share h value)) } }
+
+abbrev pub retired : View → RefParts → Share → ℕ → View
+retired v r h stamp = retired_with v r h (packed_number r.generation stamp)
+
+-- A read is placed behind the first `place` updates that the pass has seen, by a load of the word that counts the records drawn
+abbrev pub read_at : ℕ → Call → Bool → Answered
+read_at place call reply = record { call = call; reply = reply; decided = false; position = place }
