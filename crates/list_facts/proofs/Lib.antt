@@ -1,0 +1,15 @@
+pub mod Spots
+pub mod Inserting
+pub mod Removing
+pub mod Bodies
+pub mod Cells
+pub mod Nodes
+pub mod Turning
+pub mod Present
+pub mod Told
+pub mod Marking
+pub mod Publishing
+pub mod Unlinking
+pub mod Openings
+pub mod Shows
+pub mod MichaelLaws

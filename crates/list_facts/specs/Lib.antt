@@ -1,0 +1,4 @@
+pub mod Lists
+pub mod Tellings
+pub mod Steps
+pub mod Michael
