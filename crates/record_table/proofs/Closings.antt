@@ -1,17 +1,17 @@
 -- The passes of a table are absorbed in order of number.
-use Rattle.std.proofs.Common.{◌≡◌, ℕ, zero, suc, ◌+◌, ◌<◌, List, [], ◌∷◌, ◌++◌, map, length, All, true, sym, refl, ap, ◌∙◌, subst, arith, Option, Some, None}
-use Rattle.std.specs.Prelude.{option_to_list, IfSome}
+use Rattle.std.proofs.Common.{◌≡◌, ℕ, suc, ◌+◌, List, [], ◌∷◌, ◌++◌, map, length, All, true, sym, refl, ap, ◌∙◌, subst, arith}
 use Rattle.std.proofs.lemmas.List.{append-nil, nil_from_length, append_assoc, reverse-append, reverse-reverse}
-use Rattle.std.proofs.lemmas.List.Elements.{All-nil, All-head, All-tail, All-push, All-pop}
+use Rattle.std.proofs.lemmas.List.Elements.{All-nil, All-head, All-tail, All-push}
 use mathlib.Core.List.{reverse}
 use Rattle.record_memory.specs.declared.books.View.{View}
 use Rattle.record_memory.specs.declared.books.Book.{Book}
+use Rattle.record_memory.specs.declared.books.Guard.{Guard}
 use Rattle.record_rule.specs.World.{carries}
 use Rattle.record_rule.specs.Splits.{joined}
 use Rattle.record_rule.proofs.Rebuilt.{carries_own}
 use Rattle.record_table.specs.declared.table.Table.{Table}
 use Rattle.record_table.specs.declared.passes.Pass.{Pass}
-use Rattle.record_table.specs.Handles.{key_of, view, IsPassOf}
+use Rattle.record_table.specs.Handles.{key_of, view}
 use Rattle.record_table.specs.Made.{IsFresh, AreFreshFrom, AreFreshPasses}
 use Rattle.record_rule.proofs.Lists.{at_below, get_at}
 use Rattle.record_table.specs.Closing.{own_book, own_caller, numbers_from, IsWholePassOf, AreAllPasses}
@@ -50,19 +50,19 @@ module _ {S R : Type 0} (t : Table S R) where
   pub last_all : (callers : List ℕ) (all xs : List (Pass S R)) (v : View) → length xs ≡ 0 → carries v ++ map own_book (reverse xs) ≡ map own_book all → map own_caller all ≡ callers → map (λ (b : Book). b.caller) (carries v) ≡ callers
   last_all callers all xs v none is numbers = ap (map (λ (b : Book). b.caller)) (sym (append-nil (carries v)) ∙ ap (λ l. carries v ++ map own_book (reverse l)) (sym (nil_from_length xs none)) ∙ is) ∙ sym (map_own all) ∙ numbers
 
-  tail_fresh : (from : ℕ) (p : Pass S R) (ps : List (Pass S R)) → AreFreshFrom t from (p ∷ ps) → AreFreshFrom t (from + 1) ps
-  tail_fresh from p ps f = record {
+  tail_fresh : (first : Guard) (from : ℕ) (p : Pass S R) (ps : List (Pass S R)) → AreFreshFrom t first from (p ∷ ps) → AreFreshFrom t first (from + 1) ps
+  tail_fresh first from p ps f = record {
     each_pass = λ k q e. f.each_pass (suc k) q e;
-    each_view = λ k q e. subst (λ (z : ℕ). IsFresh (key_of t) z (view q)) (let z : from + suc k ≡ from + 1 + k = omega arith in z) (f.each_view (suc k) q e);
+    each_view = λ k q e. subst (λ (z : ℕ). IsFresh (key_of t) first z (view q)) (let z : from + suc k ≡ from + 1 + k = omega arith in z) (f.each_view (suc k) q e);
   }
 
-  fresh_numbers : (from : ℕ) (ps : List (Pass S R)) → AreFreshFrom t from ps → map own_caller ps ≡ numbers_from from (length ps)
-  fresh_numbers from [] f = refl
-  fresh_numbers from (p ∷ ps) f = (λ k. ap (λ (b : Book). b.caller) (f.each_view 0 p refl).own k ∷ map own_caller ps) ∙ (λ k. (let z : from + 0 ≡ from = omega arith in z) k ∷ fresh_numbers (from + 1) ps (tail_fresh from p ps f) k)
+  fresh_numbers : (first : Guard) (from : ℕ) (ps : List (Pass S R)) → AreFreshFrom t first from ps → map own_caller ps ≡ numbers_from from (length ps)
+  fresh_numbers first from [] f = refl
+  fresh_numbers first from (p ∷ ps) f = (λ k. ap (λ (b : Book). b.caller) (f.each_view 0 p refl).own k ∷ map own_caller ps) ∙ (λ k. (let z : from + 0 ≡ from = omega arith in z) k ∷ fresh_numbers first (from + 1) ps (tail_fresh first from p ps f) k)
 
   -- fresh passes are all that there are
-  pub all_fresh : (ps : List (Pass S R)) → AreFreshPasses t ps → AreAllPasses t ps
-  all_fresh ps f = record {
+  pub all_fresh : (first : Guard) (ps : List (Pass S R)) → AreFreshPasses t first ps → AreAllPasses t ps
+  all_fresh first ps f = record {
     each = λ k d lt. let x = at_below ps k lt in subst (IsWholePassOf t) (sym (get_at ps k x.0 d x.1)) record { pass = f.each.each_pass k x.0 x.1; whole = (f.each.each_view k x.0 x.1).others_are };
-    order = fresh_numbers 0 ps f.each ∙ ap (numbers_from 0) f.all;
+    order = fresh_numbers first 0 ps f.each ∙ ap (numbers_from 0) f.all;
   }

@@ -1,5 +1,5 @@
 -- In a table that is closed each record is where the books of all callers say.
-use Rattle.std.proofs.Common.{◌≡◌, ◌≢◌, ℕ, zero, suc, ◌+◌, ◌-◌, ◌<◌, ◌≤◌, List, [], ◌∷◌, map, length, get_or, Bool, true, false, cond, eqb, sym, refl, ap, ◌∙◌, subst, arith, Option, Some, None}
+use Rattle.std.proofs.Common.{◌≡◌, ◌≢◌, ℕ, zero, suc, ◌+◌, ◌≤◌, List, [], map, length, get_or, Bool, true, false, cond, eqb, sym, refl, ap, ◌∙◌, subst, arith, Some, None}
 use Rattle.std.proofs.lemmas.List.{length-map}
 use mathlib.Core.Logic.{dite}
 use native.Mathlib.Decide.{dec_le}
@@ -10,14 +10,12 @@ use Rattle.atomic_table.proofs.Lists.{at_map}
 use Rattle.record_memory.specs.declared.books.Key.{Key}
 use Rattle.record_memory.specs.declared.books.View.{View}
 use Rattle.record_memory.specs.declared.books.Book.{Book}
-use Rattle.record_memory.specs.declared.books.Share.{Share}
 use Rattle.record_memory.specs.declared.books.Standing.{Standing}
 use Rattle.record_memory.specs.declared.books.Place.{Place}
 use Rattle.record_memory.specs.declared.books.Place.TheVariants.{Undrawn, Root, Linked, Shelved, Of}
-use Rattle.record_memory.specs.Memory.{memory}
 use Rattle.row_words.specs.Packing.{own_in}
-use Rattle.record_rule.specs.Records.{Record, IsSound, share, share_at, known, carried}
-use Rattle.record_rule.specs.Inputs.{ShapeInput, SchemeInput}
+use Rattle.record_rule.specs.Records.{Record, IsSound, share, share_at, carried}
+use Rattle.record_rule.specs.Facts.{ShapeFacts, CoverFacts}
 use Rattle.record_rule.specs.World.{Rule, carries}
 use Rattle.record_rule.proofs.Lists.{map_at, get_at}
 use Rattle.record_rule.proofs.Owned.{share_of}
@@ -59,7 +57,7 @@ module _ (key : Key) (i : ℕ) (r : Record) (s : IsSound key i r) where
   fits_at (Shelved k) e = (no_root (λ q. let none : ⊥ = (let z : Shelved k ≡ Root = sym e ∙ q in cc) in none), born (λ q. let none : ⊥ = (let z : Shelved k ≡ Undrawn = sym e ∙ q in cc) in none) (ap (λ (p : Place). carried p r.era 0) e))
   fits_at (Of c t) e = (no_root (λ q. let none : ⊥ = (let z : Of c t ≡ Root = sym e ∙ q in cc) in none), s.callers c t e)
 
-module _ (formed : ShapeInput → Type 0) (covered : SchemeInput → Type 0) (key : Key) (s : State (Unit {0}) View) (u : Rule formed covered key s) (id : ℕ) (v : View) (at : get_elem? s.views id ≡ some v) (last : IsLastOf key v) where
+module _ (shape : ShapeFacts) (cover : CoverFacts) (key : Key) (s : State (Unit {0}) View) (u : Rule shape cover key s) (id : ℕ) (v : View) (at : get_elem? s.views id ≡ some v) (last : IsLastOf key v) where
   abbrev place_of : Record → Place
   place_of r = r.place
 
@@ -85,8 +83,8 @@ module _ (formed : ShapeInput → Type 0) (covered : SchemeInput → Type 0) (ke
   }
 
 -- the end of a table says where each record is
-pub has_places : (formed : ShapeInput → Type 0) (covered : SchemeInput → Type 0) (key : Key) (v : View) (words : List ℕ) → IsEndOf (Rule formed covered key) v words → IsLastOf key v → (places : List Place) × ArePlaces key (carries v) words places
-has_places formed covered key v words e last = (_, subst (λ ws. ArePlaces key (carries v) ws (map (λ (r : Record). r.place) e.rule.records)) e.words_are (are_places formed covered key e.state e.rule e.seat v e.known last))
+pub has_places : (shape : ShapeFacts) (cover : CoverFacts) (key : Key) (v : View) (words : List ℕ) → IsEndOf (Rule shape cover key) v words → IsLastOf key v → (places : List Place) × ArePlaces key (carries v) words places
+has_places shape cover key v words e last = (_, subst (λ ws. ArePlaces key (carries v) ws (map (λ (r : Record). r.place) e.rule.records)) e.words_are (are_places shape cover key e.state e.rule e.seat v e.known last))
 
-pub closed_places : (formed : ShapeInput → Type 0) (covered : SchemeInput → Type 0) (key : Key) (v : View) (c : Closed) → closed_key c ≡ key → closed_view c ≡ v → IsEndOf (Rule formed covered key) v (closed_words c) → IsLastOf key v → HasPlaces c
-closed_places formed covered key v c k w e last = let x = has_places formed covered key v (closed_words c) e last in (x.0, subst (λ (z : Key × View). ArePlaces z.0 (carries z.1) (closed_words c) x.0) (λ j. (sym k j, sym w j)) x.1)
+pub closed_places : (shape : ShapeFacts) (cover : CoverFacts) (key : Key) (v : View) (c : Closed) → closed_key c ≡ key → closed_view c ≡ v → IsEndOf (Rule shape cover key) v (closed_words c) → IsLastOf key v → HasPlaces c
+closed_places shape cover key v c k w e last = let x = has_places shape cover key v (closed_words c) e last in (x.0, subst (λ (z : Key × View). ArePlaces z.0 (carries z.1) (closed_words c) x.0) (λ j. (sym k j, sym w j)) x.1)

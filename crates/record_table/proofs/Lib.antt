@@ -1,6 +1,11 @@
-pub mod Trivial
 pub mod Repeated
 pub mod Made
 pub mod Copies
 pub mod Closings
 pub mod Ended
+pub mod SamePass
+pub mod SameViews
+pub mod InTable
+pub mod LinkWords
+pub mod Retiring
+pub mod Sending

@@ -70,6 +70,8 @@ impl<S: Shape, R: Cover> Table<S, R> {
         let Pass {
             seat,
             caller: _,
+            since: _,
+            inside: _,
             marker: _,
         } = from;
         self.board.shared.join_seat::<Takes>(&mut into.seat, seat);
@@ -81,7 +83,7 @@ impl<S: Shape, R: Cover> Table<S, R> {
         requires all { IsLastOf (key_of self) (view last) }
         ensures key { closed_key result ≡ key_of self }
         ensures view { closed_view result ≡ view last }
-        ensures end { IsEndOf (rule self) (view last) (closed_words result) }
+        ensures end { IsEndOf (rule S.facts R.facts self) (view last) (closed_words result) }
     {
         let Table {
             board,
@@ -92,6 +94,8 @@ impl<S: Shape, R: Cover> Table<S, R> {
         let Pass {
             seat,
             caller: _,
+            since: _,
+            inside: _,
             marker: _,
         } = last;
         let last = Snapshot::of(&seat);
@@ -115,7 +119,7 @@ impl<S: Shape, R: Cover> Table<S, R> {
         requires all { IsLastOf (key_of self) (view last) }
         ensures key { closed_key result ≡ key_of self }
         ensures view { closed_view result ≡ view last }
-        ensures end { IsEndOf (rule self) (view last) (closed_words result) }
+        ensures end { IsEndOf (rule S.facts R.facts self) (view last) (closed_words result) }
         ensures places { HasPlaces result }
     {
         self.end(last)
@@ -134,7 +138,7 @@ impl<S: Shape, R: Cover> Table<S, R> {
         requires { AreAllPasses self passes.items }
         ensures key { closed_key result ≡ key_of self }
         ensures books { carries (closed_view result) ≡ map own_book passes.items }
-        ensures end { IsEndOf (rule self) (closed_view result) (closed_words result) }
+        ensures end { IsEndOf (rule S.facts R.facts self) (closed_view result) (closed_words result) }
         ensures places { HasPlaces result }
     {
         passes.reverse();

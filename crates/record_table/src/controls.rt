@@ -30,7 +30,7 @@ impl<S: Shape, R: Cover> Table<S, R> {
     pub fn store_control(&self, pass: &mut Pass<S, R>, word: u32, value: u64)
         requires pass { IsPassOf self.now pass.old }
         requires control { word < controls (key_of self.now).callers }
-        requires allowed { Permits (rule self.now) (seat_of pass.old) (view pass.old) Store word (λ _. value) }
+        requires allowed { Permits (rule S.facts R.facts self.now) (seat_of pass.old) (view pass.old) Store word (λ _. value) }
         ensures pass { IsSamePass pass.old pass.new }
         ensures step { (found : ℕ) × (view pass.new ≡ noted (view pass.old) (control_step (view pass.old) Store word found value)) }
     {
@@ -43,7 +43,7 @@ impl<S: Shape, R: Cover> Table<S, R> {
     pub fn swap_control(&self, pass: &mut Pass<S, R>, word: u32, value: u64) -> u64
         requires pass { IsPassOf self.now pass.old }
         requires control { word < controls (key_of self.now).callers }
-        requires allowed { Permits (rule self.now) (seat_of pass.old) (view pass.old) Swap word (λ _. value) }
+        requires allowed { Permits (rule S.facts R.facts self.now) (seat_of pass.old) (view pass.old) Swap word (λ _. value) }
         ensures pass { IsSamePass pass.old pass.new }
         ensures step { view pass.new ≡ noted (view pass.old) (control_step (view pass.old) Swap word result value) }
     {
@@ -80,7 +80,7 @@ impl<S: Shape, R: Cover> Table<S, R> {
     ) -> Result<(), u64>
         requires pass { IsPassOf self.now pass.old }
         requires control { word < controls (key_of self.now).callers }
-        requires allowed { Permits (rule self.now) (seat_of pass.old) (view pass.old) Exchange word (λ n. if n == expected then new else n) }
+        requires allowed { Permits (rule S.facts R.facts self.now) (seat_of pass.old) (view pass.old) Exchange word (λ n. if n == expected then new else n) }
         ensures pass { IsSamePass pass.old pass.new }
         ensures step { MatchResult result
             (λ _. view pass.new ≡ noted (view pass.old) (control_step (view pass.old) Exchange word expected new))

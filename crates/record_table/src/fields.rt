@@ -1,8 +1,8 @@
 // The owner's steps on the words of a record that it has.
 ghost use Rattle.std.specs.Prelude.{◌≡◌, ℕ, ◌+◌, ◌-◌, ◌*◌, ◌^◌, ◌<◌, ◌≤◌, length, Option, Some, None, slice_index_or};
 ghost use Rattle.record_memory.specs.declared.books.Share.{Share};
-ghost use Rattle.row_words.specs.Packing.{IsPackedLink};
-ghost use Rattle.record_rule.specs.Kinds.{stored, loaded, share_in, MayStore, IsKnown};
+ghost use Rattle.row_words.specs.Packing.{IsPackedLink, number_in};
+ghost use Rattle.record_rule.specs.Kinds.{stored, loaded, share_in, MayStore, EndsHanding, IsKnown};
 ghost use Rattle.record_table.specs.Handles.{key_of, view, IsPassOf, IsSamePass};
 
 use crate::passes::Pass;
@@ -25,6 +25,7 @@ impl<S: Shape, R: Cover> Table<S, R> {
         requires pass { IsPassOf self.now pass.old }
         requires index { (0 < index) × (index ≤ (key_of self.now).records) }
         requires allowed { (h : Share) × (share_in (view pass.old) index ≡ Some h) × MayStore h field value }
+        requires birth { (h : Share) → share_in (view pass.old) index ≡ Some h → EndsHanding h.standing → R.facts.births (view pass.old).own.guard (number_in (slice_index_or h.words 0 0)) }
         ensures pass { IsSamePass pass.old pass.new }
         ensures step { view pass.new ≡ stored (view pass.old) index field value }
     {

@@ -37,11 +37,12 @@ impl<S: Shape, R: Cover> Table<S, R> {
 
     /// Hands out a record that this pass drew and hasn't handed out: stores its eight words anew
     /// under `r`'s generation, word 0 with `birth` and the others with payload 0. `birth` is below
-    /// 2^44.
+    /// 2^44 and one at which the reclaimer lets this caller hand out a record.
     pub fn hand_out(&self, pass: &mut Pass<S, R>, r: Ref, birth: u64) -> Own
         requires pass { IsPassOf self.now pass.old }
         requires drawn { HasDrawn (view pass.old) r }
         requires birth { birth < 2 ^ 44 }
+        requires allowed { R.facts.births (view pass.old).own.guard birth }
         ensures pass { IsSamePass pass.old pass.new }
         ensures record { result ≡ r }
         ensures steps { view pass.new ≡ handed_out (view pass.old) r birth }

@@ -12,8 +12,10 @@ mod controls;
 mod crossing;
 mod fields;
 mod hand_out;
+mod links;
 mod making;
 mod meeting;
+mod nodes;
 mod opening;
 mod passes;
 mod plays;
@@ -21,11 +23,13 @@ mod rows;
 mod table;
 #[cfg(test)]
 mod tests;
+mod told;
 
 pub use closing::Closed;
 pub use hand_out::Own;
 pub use making::{PrepareError, Scheme, prepare};
 pub use meeting::Front;
+pub use nodes::{Found, Held, Node, TakenOut};
 pub use passes::Pass;
 pub use record_rule::{Cover, Shape, World};
 pub use rows::Rows;

@@ -15,6 +15,7 @@ use row_words::Generation;
 use set_model::AllocatorName;
 use std::alloc::{AllocError, AllocFailed, Global};
 use std::marker::PhantomData;
+use std::snapshot::Snapshot;
 use thiserror::Error;
 
 /// The greatest number of records.
@@ -57,8 +58,11 @@ impl<S: Shape, R: Cover> Table<S, R> {
         ensures new { IsPassOf self.now result }
         ensures right { view result ≡ split_right (view pass.old) }
     {
+        let seat = self.board.shared.split_seat::<Gives>(&mut pass.seat);
         Pass {
-            seat: self.board.shared.split_seat::<Gives>(&mut pass.seat),
+            since: Snapshot::of(&seat),
+            inside: Snapshot::of(&false),
+            seat,
             caller,
             marker: PhantomData,
         }
@@ -67,8 +71,8 @@ impl<S: Shape, R: Cover> Table<S, R> {
     // The passes of all callers, split off caller 0's in order of number.
     fn split_all(&self, alloc: Global, mut first: Pass<S, R>) -> Result<Vec<Pass<S, R>>, AllocError>
         requires pass { IsPassOf self.now first }
-        requires first { view first ≡ first_view (key_of self.now) }
-        ensures { IfOk result (λ passes. AreFreshPasses self.now passes.items) }
+        requires first { view first ≡ first_view R.facts.first (key_of self.now) }
+        ensures { IfOk result (λ passes. AreFreshPasses self.now R.facts.first passes.items) }
     {
         let mut passes = Vec::with_capacity(alloc, self.key.callers as usize)?;
         for caller in 1..self.key.callers {
@@ -90,7 +94,7 @@ fn make<S: Shape, R: Cover>(
     requires first { first ≡ key.first }
     ensures table { IfOk result (λ made. key_of made.0 ≡ key) }
     ensures passes { IfOk result (λ made. AreAllPasses made.0 made.1.items) }
-    ensures fresh { IfOk result (λ made. AreFreshPasses made.0 made.1.items) }
+    ensures fresh { IfOk result (λ made. AreFreshPasses made.0 R.facts.first made.1.items) }
 {
     let room = laid_words(alloc, &key)?;
     let (board, seat) = Board::<(), View, Key, World<S, R>, Global>::of_words(
@@ -105,6 +109,8 @@ fn make<S: Shape, R: Cover>(
         room,
     };
     let pass = Pass {
+        since: Snapshot::of(&seat),
+        inside: Snapshot::of(&false),
         seat,
         caller: 0,
         marker: PhantomData,
@@ -134,7 +140,7 @@ pub fn prepare<S: Shape, R: Scheme>(
     ensures callers { (result ≡ Err PrepareError.Callers) ↔ ((¬ (AreBadRecords records roots)) × AreBadCallers callers) }
     ensures table { IfOk result (λ made. key_of made.0 ≡ key_with records roots callers first allocator) }
     ensures passes { IfOk result (λ made. AreAllPasses made.0 made.1.items) }
-    ensures fresh { IfOk result (λ made. AreFreshPasses made.0 made.1.items) }
+    ensures fresh { IfOk result (λ made. AreFreshPasses made.0 R.facts.first made.1.items) }
 {
     if records < roots || records > MOST_RECORDS {
         return Err(PrepareError::Records);

@@ -3,16 +3,28 @@ use row_words::Generation;
 use set_model::AllocatorName;
 use std::test::Fail;
 
-// A set and a reclaimer of which nothing is known.
-struct AnySet;
+// A set in which nothing is linked, and a reclaimer that frees nothing.
+struct NoSet;
 
-impl Shape for AnySet {}
+impl Shape for NoSet {
+    ghost use Rattle.record_rule.specs.Least.{least_shape, least_shape_laws};
 
-struct AnyReclaimer;
+    ghost facts = { least_shape };
 
-impl Cover for AnyReclaimer {}
+    ghost laws = { least_shape_laws };
+}
 
-impl Scheme for AnyReclaimer {}
+struct NoReclaimer;
+
+impl Cover for NoReclaimer {
+    ghost use Rattle.record_rule.specs.Least.{least_cover, least_cover_laws};
+
+    ghost facts = { least_cover };
+
+    ghost laws = { least_cover_laws };
+}
+
+impl Scheme for NoReclaimer {}
 
 #[test]
 fn refuses_bad_numbers(rt: HostRuntime) -> Result<(), Fail> {
@@ -25,7 +37,7 @@ fn refuses_bad_numbers(rt: HostRuntime) -> Result<(), Fail> {
         (1, 17, PrepareError::Callers),
         (1_048_575, 17, PrepareError::Callers),
     ] {
-        let made = prepare::<AnySet, AnyReclaimer>(
+        let made = prepare::<NoSet, NoReclaimer>(
             rt.alloc(),
             records,
             callers,
@@ -44,7 +56,7 @@ fn refuses_bad_numbers(rt: HostRuntime) -> Result<(), Fail> {
 #[test]
 fn closes_with_the_words_it_was_made_with(rt: HostRuntime) -> Result<(), Fail> {
     let first = Generation::new(5).ok_or("a generation")?;
-    let (table, passes) = prepare::<AnySet, AnyReclaimer>(
+    let (table, passes) = prepare::<NoSet, NoReclaimer>(
         rt.alloc(),
         3,
         2,
@@ -77,7 +89,7 @@ fn closes_with_the_words_it_was_made_with(rt: HostRuntime) -> Result<(), Fail> {
 #[test]
 fn closes_with_sixteen_callers(rt: HostRuntime) -> Result<(), Fail> {
     let first = Generation::new(1).ok_or("a generation")?;
-    let (table, passes) = prepare::<AnySet, AnyReclaimer>(
+    let (table, passes) = prepare::<NoSet, NoReclaimer>(
         rt.alloc(),
         2,
         16,

@@ -1,4 +1,4 @@
-use Rattle.std.proofs.Common.{arith, ap, subst, sym, ◌∙◌, ◌≡◌, List, ℕ, length, []}
+use Rattle.std.proofs.Common.{ap, subst, sym, ◌∙◌, ◌≡◌, List, ℕ, length, []}
 use Rattle.atomic_table.specs.Table.{opening}
 use Rattle.record_memory.specs.declared.books.Key.{Key}
 use Rattle.record_memory.specs.Memory.{size}
@@ -11,7 +11,7 @@ use Rattle.record_table.proofs.making.make.Goals as goal
 
 pub of_words-requires : goal.of_words-requires
 of_words-requires g c = let k : Key = c.args.key in let e = c.as_slice.ensures.value ∙ c.in_ok-room.ensures in
-    subst (λ (ws : List ℕ). Rule (λ _. Unit {0}) (λ _. Unit {0}) k (opening ws [] (first_view k))) (sym e) (opens k c.requires.numbers (λ _. Unit {0}) (λ _. Unit {0}) tt tt)
+    subst (λ (ws : List ℕ). Rule g.S.Shape.facts g.R.Cover.facts k (opening ws [] (first_view g.R.Cover.facts.first k))) (sym e) (opens k c.requires.numbers g.S.Shape.facts g.R.Cover.facts g.S.Shape.laws g.R.Cover.laws)
 
 pub invariant_of-table : goal.invariant_of-table
 invariant_of-table g c = let k : Key = c.args.key in let same = c.in_ok-board.ensures.5 in let wide : length (opening_words k) ≡ size k.callers k.records = wide_is k c.requires.numbers.rooted in
@@ -25,4 +25,4 @@ invariant_of-table g c = let k : Key = c.args.key in let same = c.in_ok-board.en
     }
 
 pub returns-clause-passes : goal.returns-clause-passes
-returns-clause-passes g c = all_fresh _ _ c.in_ok-passes.ensures
+returns-clause-passes g c = all_fresh _ _ _ c.in_ok-passes.ensures

@@ -1,6 +1,5 @@
-use Rattle.std.proofs.Common.{◌≡◌, ◌∙◌, ℕ, Option, Some, ap, sym, refl}
+use Rattle.std.proofs.Common.{◌≡◌, ◌∙◌, ℕ, ap, refl}
 use Rattle.row_words.specs.Refs.{RefParts, LinkParts}
-use Rattle.row_words.specs.Packing.{link_in}
 use Rattle.record_memory.specs.declared.books.View.{View}
 use Rattle.record_rule.specs.Kinds.{stored}
 use Rattle.record_rule.proofs.ChainRows.{owns_stored, still_store}

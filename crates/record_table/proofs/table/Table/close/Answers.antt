@@ -1,4 +1,4 @@
-use Rattle.std.proofs.Common.{arith, ap, subst, sym, ◌∙◌, ◌≡◌, ◌++◌, [], ◌∷◌, Some, refl, map}
+use Rattle.std.proofs.Common.{arith, Some}
 use Rattle.std.proofs.lemmas.List.Elements.{All-pop, All-same}
 use Rattle.record_table.specs.Closing.{IsWholePassOf}
 use Rattle.record_table.proofs.Closings.{All-reverse, first_all, more_all, last_all}

@@ -1,5 +1,4 @@
 use Rattle.std.proofs.Common.{◌≡◌, ◌++◌, map, All, vec_len}
-use Rattle.std.proofs.lemmas.List.{reverse-append}
 use mathlib.Core.List.{reverse}
 use Rattle.record_rule.specs.World.{carries}
 use Rattle.record_table.specs.Handles.{view, IsPassOf}

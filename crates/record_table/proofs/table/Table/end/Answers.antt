@@ -1,6 +1,6 @@
-use Rattle.std.proofs.Common.{arith, ap, subst, sym, ◌∙◌, ◌<◌, length}
+use Rattle.std.proofs.Common.{arith}
 use Rattle.std.specs.Mem.Slots.{slots_items}
-use Rattle.record_table.proofs.Copies.{copies_more, copies_all}
+use Rattle.record_table.proofs.Copies.{copies_more}
 use Rattle.record_table.proofs.table.Table.end.Goals as goal
 
 pub loop-i-preserved : goal.loop-i-preserved

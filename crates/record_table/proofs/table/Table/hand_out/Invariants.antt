@@ -1,4 +1,4 @@
-use Rattle.std.proofs.Common.{◌≡◌, ◌<◌, ℕ, true}
+use Rattle.std.proofs.Common.{◌≡◌}
 use Rattle.record_rule.specs.HandingOut.{stores_from, fresh_row}
 use Rattle.record_table.specs.Handles.{view, IsSamePass}
 use Rattle.record_table.proofs.table.Table.hand_out.Given as goal

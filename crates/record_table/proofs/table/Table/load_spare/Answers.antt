@@ -1,6 +1,5 @@
-use Rattle.std.proofs.Common.{arith, ap, sym, subst, ◌∙◌, ◌≡◌, ℕ}
+use Rattle.std.proofs.Common.{arith, refl, ap, subst, ◌∙◌, ℕ}
 use Rattle.record_memory.specs.declared.steps.Word.{Word}
-use Rattle.record_memory.specs.Memory.{word_at}
 use Rattle.record_rule.specs.Kinds.{IsKnownAt}
 use Rattle.record_rule.specs.Asides.{took_spare, record_with}
 use Rattle.record_rule.proofs.Asides.{takes_spare, chain_at, same_taken}
@@ -15,9 +14,9 @@ load-requires g c = let h = c.requires.spare in (
 
 pub returns : goal.returns
 returns g c = let h = c.requires.spare in let v = c.args.pass.now.seat.me.0 in let did = c.load.ensures.2 in let n : ℕ = c.load.result in
-    let name = chain_at (λ _. Unit {0}) (λ _. Unit {0}) _ v _ c.args.index c.requires.pass.key c.place_of-word.ensures c.requires.index.0 in
+    let name = chain_at _ v _ c.args.index c.requires.pass.key c.place_of-word.ensures c.requires.index.0 in
     let s = ap (λ m. m.0) did.0 ∙ ap (λ (w : Word). took_spare v (record_with w) n) name in let same = same_taken v c.args.index n h.0 h.1 in record {
-      pass = record { table = c.load.ensures.0; seat = c.load.ensures.1; caller = ap (λ v. v.own.caller) s ∙ same.2; key = ap (λ v. v.key) s ∙ same.0; present = ap (λ v. v.present) s ∙ same.1; others = ap (λ v. v.others) s ∙ same.3 };
+      pass = record { table = c.load.ensures.0; seat = c.load.ensures.1; caller = ap (λ v. v.own.caller) s ∙ same.2; key = ap (λ v. v.key) s ∙ same.0; present = ap (λ v. v.present) s ∙ same.1; others = ap (λ v. v.others) s ∙ same.3; since = refl; inside = refl };
       step = s;
       found = subst (λ (w : Word). IsKnownAt v w n) name did.1;
     }

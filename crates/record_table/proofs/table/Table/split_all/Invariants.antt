@@ -8,7 +8,7 @@ use Rattle.record_table.proofs.table.Table.split_all.Given as goal
 abbrev pub invariant-loop-caller : goal.invariant-loop-caller
 invariant-loop-caller g l = record {
   is : IsPassOf l.self l.first;
-  rest : IsFreshWith (key_of l.self) 0 (books_from (key_of l.self) l.caller) (view l.first);
-  made : AreFreshFrom l.self 1 l.passes.items;
+  rest : IsFreshWith (key_of l.self) g.R.Cover.facts.first 0 (books_from (key_of l.self) g.R.Cover.facts.first l.caller) (view l.first);
+  made : AreFreshFrom l.self g.R.Cover.facts.first 1 l.passes.items;
   many : 1 + length l.passes.items ≡ l.caller;
 }

@@ -1,0 +1,14 @@
+use Rattle.std.proofs.Common.{arith, refl}
+use Rattle.record_rule.proofs.Permitted.{lawful}
+use Rattle.record_table.proofs.SamePass.{same_pass}
+use Rattle.record_table.proofs.table.Table.store_told.Goals as goal
+
+pub store-requires : goal.store-requires
+store-requires g c = (
+  c.requires.pass.table,
+  (let w = c.args.self.now.sized in let h = c.requires.word in omega arith),
+  lawful _ _ _ _ _ (λ _. c.args.value) (λ _. g.M.Tells.tells c.args.pass.now.seat.me.0 c.args.value) c.requires.lawful,
+)
+
+pub returns : goal.returns
+returns g c = record { pass = same_pass _ _ c.store.ensures.0 c.store.ensures.1 (g.M.Tells.same _ _ _ c.store.ensures.2.0) refl refl; told = c.store.ensures.2.0 }
