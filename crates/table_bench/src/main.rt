@@ -8,16 +8,17 @@ ghost use Rattle.set_model.specs.declared.names.AllocatorName.TheVariants.{Bump 
 
 use alloc_api::{Allocator, NoRecord};
 use alloc_bump::Bump;
+use reclaim_none::NoReclaim;
 use record_table::{PrepareError, prepare};
 use row_words::{Generation, Ref};
 use set_model::AllocatorName;
 use std::alloc::Global;
 use std::env;
 use std::process::ExitCode;
-use table_tests::{AnyPass, AnyReclaimer, AnySet, AnyTable, take_last};
+use table_tests::{ListPass, ListTable, MichaelShape, take_last};
 
 // Draws a record, hands it out and sets it aside.
-fn draw_aside(table: &AnyTable, pass: &mut AnyPass) -> Result<Ref, NoRecord>
+fn draw_aside(table: &ListTable, pass: &mut ListPass) -> Result<Ref, NoRecord>
     requires pass { IsPassOf table.now pass.old }
     requires allocator { (key_of table.now).allocator ≡ BumpName }
     ensures pass { IsSamePass pass.old pass.new }
@@ -28,7 +29,7 @@ fn draw_aside(table: &AnyTable, pass: &mut AnyPass) -> Result<Ref, NoRecord>
 }
 
 // Does so with every record.
-fn draw_all(table: &AnyTable, pass: &mut AnyPass)
+fn draw_all(table: &ListTable, pass: &mut ListPass)
     requires pass { IsPassOf table.now pass.old }
     requires allocator { (key_of table.now).allocator ≡ BumpName }
     ensures pass { IsSamePass pass.old pass.new }
@@ -42,7 +43,7 @@ fn draw_all(table: &AnyTable, pass: &mut AnyPass)
 
 // The number of records drawn, by the words of the closed table.
 fn drawn_of(alloc: Global, records: u32, first: Generation) -> Result<u64, PrepareError> {
-    let (table, mut passes) = prepare::<AnySet, AnyReclaimer>(
+    let (table, mut passes) = prepare::<MichaelShape, NoReclaim>(
         alloc,
         records,
         1,

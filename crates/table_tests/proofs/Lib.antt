@@ -1,2 +1,4 @@
 pub mod Ends
 pub mod Fresh
+pub mod Adding
+pub mod Holding

@@ -3,17 +3,19 @@ ghost use Rattle.record_rule.specs.ChainRows.{OwnsChain};
 ghost use Rattle.record_table.specs.Handles.{key_of, view, IsPassOf, IsSamePass};
 ghost use Rattle.set_model.specs.declared.names.AllocatorName.TheVariants.{Bump as BumpName};
 
-use crate::closing::{AnyPass, AnyReclaimer, AnySet, AnyTable, take_last};
+use crate::closing::take_last;
+use crate::types::{ListPass, ListTable, MichaelShape};
 use alloc_api::{Allocator, NoRecord};
 use alloc_bump::Bump;
 use limbo_bags::{pop, push};
+use reclaim_none::NoReclaim;
 use record_table::{Rows, prepare};
 use row_words::{Chain, Generation, Ref};
 use set_model::AllocatorName;
 use std::test::Fail;
 
 // Puts a record into an empty chain through the rows, and takes it off again.
-fn push_and_pop(table: &AnyTable, pass: &mut AnyPass, r: Ref) -> Option<Ref>
+fn push_and_pop(table: &ListTable, pass: &mut ListPass, r: Ref) -> Option<Ref>
     requires pass { IsPassOf table.now pass.old }
     requires owned { OwnsChain (view pass.old) r }
     ensures same { IsSamePass pass.old pass.new }
@@ -28,7 +30,7 @@ fn push_and_pop(table: &AnyTable, pass: &mut AnyPass, r: Ref) -> Option<Ref>
 }
 
 // Draws a record, sets it aside, puts it into a chain and takes it off again.
-fn chained(table: &AnyTable, pass: &mut AnyPass) -> Result<Option<Ref>, NoRecord>
+fn chained(table: &ListTable, pass: &mut ListPass) -> Result<Option<Ref>, NoRecord>
     requires pass { IsPassOf table.now pass.old }
     requires allocator { (key_of table.now).allocator ≡ BumpName }
     ensures pass { IsSamePass pass.old pass.new }
@@ -43,7 +45,7 @@ fn chained(table: &AnyTable, pass: &mut AnyPass) -> Result<Option<Ref>, NoRecord
 #[test]
 fn a_chain_goes_through_the_rows(rt: HostRuntime) -> Result<(), Fail> {
     let first = Generation::new(1).ok_or("a generation")?;
-    let (table, mut passes) = prepare::<AnySet, AnyReclaimer>(
+    let (table, mut passes) = prepare::<MichaelShape, NoReclaim>(
         rt.alloc(),
         2,
         1,

@@ -4,22 +4,13 @@ ghost use Rattle.record_rule.specs.World.{StartsWith};
 ghost use Rattle.record_table.specs.Handles.{view, IsPassOf};
 ghost use Rattle.record_table.specs.Closing.{AreAllPasses};
 
-use record_table::{Cover, Pass, Scheme, Shape, Table, prepare};
+use crate::types::MichaelShape;
+use reclaim_none::NoReclaim;
+use record_table::{Pass, Scheme, Shape, Table, prepare};
 use row_words::Generation;
 use set_history::meet;
 use set_model::AllocatorName;
 use std::test::Fail;
-
-// A set and a reclaimer of which nothing is known.
-struct AnySet;
-
-impl Shape for AnySet {}
-
-struct AnyReclaimer;
-
-impl Cover for AnyReclaimer {}
-
-impl Scheme for AnyReclaimer {}
 
 // The first caller meets into the last one.
 fn meet_ends<S: Shape, R: Scheme>(table: &Table<S, R>, passes: &mut [Pass<S, R>])
@@ -51,7 +42,7 @@ fn meet_in_a_row<S: Shape, R: Scheme>(
 #[test]
 fn sixteen_callers_meet_and_close(rt: HostRuntime) -> Result<(), Fail> {
     let first = Generation::new(1).ok_or("a generation")?;
-    let (table, mut passes) = prepare::<AnySet, AnyReclaimer>(
+    let (table, mut passes) = prepare::<MichaelShape, NoReclaim>(
         rt.alloc(),
         1,
         16,

@@ -2,21 +2,13 @@
 ghost use Rattle.std.specs.Prelude.{◌≡◌};
 ghost use Rattle.record_table.specs.Handles.{IsPassOf, IsSamePass};
 
+use crate::types::MichaelShape;
 use pool::{Given, NoPool, Pool, Taken};
-use record_table::{Cover, Pass, Scheme, Shape, Table, prepare};
+use reclaim_none::NoReclaim;
+use record_table::{Pass, Scheme, Shape, Table, prepare};
 use row_words::{Chain, Generation};
 use set_model::AllocatorName;
 use std::test::Fail;
-
-struct AnySet;
-
-impl Shape for AnySet {}
-
-struct AnyReclaimer;
-
-impl Cover for AnyReclaimer {}
-
-impl Scheme for AnyReclaimer {}
 
 // Asks any pool for a chain.
 fn ask<S: Shape, R: Scheme, P: Pool>(table: &Table<S, R>, pass: &mut Pass<S, R>) -> Taken
@@ -29,7 +21,7 @@ fn ask<S: Shape, R: Scheme, P: Pool>(table: &Table<S, R>, pass: &mut Pass<S, R>)
 #[test]
 fn a_pool_without_shelves_keeps_nothing(rt: HostRuntime) -> Result<(), Fail> {
     let first = Generation::new(1).ok_or("a generation")?;
-    let (table, mut passes) = prepare::<AnySet, AnyReclaimer>(
+    let (table, mut passes) = prepare::<MichaelShape, NoReclaim>(
         rt.alloc(),
         1,
         1,
@@ -38,7 +30,7 @@ fn a_pool_without_shelves_keeps_nothing(rt: HostRuntime) -> Result<(), Fail> {
         AllocatorName::Bump,
     )?;
     let pass = passes.last_mut().ok_or("a pass")?;
-    assert!(rt; ask::<AnySet, AnyReclaimer, NoPool>(&table, pass) == Taken::None);
+    assert!(rt; ask::<MichaelShape, NoReclaim, NoPool>(&table, pass) == Taken::None);
     let kept = NoPool::give(&table, pass, Chain::new());
     assert!(rt; kept == Given::Kept(Chain::new()));
     assert_eq!(rt; NoPool::SHELVES, 0);

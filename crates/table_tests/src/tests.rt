@@ -2,19 +2,21 @@ ghost use Rattle.std.specs.Prelude.{◌≡◌, IfOk, OnOk};
 ghost use Rattle.set_model.specs.declared.names.AllocatorName.TheVariants.{Bump as BumpName};
 ghost use Rattle.record_table.specs.Handles.{key_of, view, IsPassOf, IsSamePass};
 
-use crate::closing::{AnyPass, AnyReclaimer, AnySet, AnyTable, take_last};
+use crate::closing::take_last;
+use crate::types::{ListPass, ListTable, MichaelShape};
 use alloc_api::{Allocator, NoRecord};
 use alloc_bump::Bump;
+use reclaim_none::NoReclaim;
 use record_table::prepare;
 use row_words::{Generation, Ref};
 use set_model::AllocatorName;
 use std::test::Fail;
 
 // The birth that records are handed out with.
-const BIRTH: u64 = 9;
+const BIRTH: u64 = 0;
 
 // Draws a record, hands it out and sets it aside before `next`.
-fn draw_aside(table: &AnyTable, pass: &mut AnyPass, next: Option<Ref>) -> Result<Ref, NoRecord>
+fn draw_aside(table: &ListTable, pass: &mut ListPass, next: Option<Ref>) -> Result<Ref, NoRecord>
     requires pass { IsPassOf table.now pass.old }
     requires allocator { (key_of table.now).allocator ≡ BumpName }
     ensures pass { IsSamePass pass.old pass.new }
@@ -27,7 +29,7 @@ fn draw_aside(table: &AnyTable, pass: &mut AnyPass, next: Option<Ref>) -> Result
 #[test]
 fn sets_every_record_aside(rt: HostRuntime) -> Result<(), Fail> {
     let first = Generation::new(7).ok_or("a generation")?;
-    let (table, mut passes) = prepare::<AnySet, AnyReclaimer>(
+    let (table, mut passes) = prepare::<MichaelShape, NoReclaim>(
         rt.alloc(),
         4,
         1,
@@ -59,7 +61,7 @@ fn sets_every_record_aside(rt: HostRuntime) -> Result<(), Fail> {
 #[test]
 fn two_callers_draw_in_turn(rt: HostRuntime) -> Result<(), Fail> {
     let first = Generation::new(1).ok_or("a generation")?;
-    let (table, mut passes) = prepare::<AnySet, AnyReclaimer>(
+    let (table, mut passes) = prepare::<MichaelShape, NoReclaim>(
         rt.alloc(),
         4,
         2,

@@ -3,23 +3,15 @@ ghost use Rattle.std.specs.Prelude.{◌≡◌, length, IfOk};
 ghost use Rattle.record_table.specs.Handles.{view, IsPassOf, IsSamePass};
 ghost use Rattle.record_table.specs.Closing.{AreAllPasses, IsWholePassOf, own_caller};
 
-use record_table::{Cover, Pass, Scheme, Shape, Table, prepare};
+use crate::types::MichaelShape;
+use reclaim_none::NoReclaim;
+use record_table::{Pass, Scheme, Shape, Table, prepare};
 use row_words::Generation;
 use set_model::AllocatorName;
 use std::alloc::AllocError;
 use std::test::Fail;
 use std::thread;
 use std::thread::Threads;
-
-struct AnySet;
-
-impl Shape for AnySet {}
-
-struct AnyReclaimer;
-
-impl Cover for AnyReclaimer {}
-
-impl Scheme for AnyReclaimer {}
 
 // Loads the epoch a few times, and gives the pass back.
 fn look<S: Shape, R: Scheme>(table: &Table<S, R>, mut pass: Pass<S, R>) -> Pass<S, R>
@@ -68,7 +60,7 @@ fn look_all<S: Shape + Send, R: Scheme + Send>(
 #[test]
 fn callers_look_in_two_threads_and_close(rt: HostRuntime) -> Result<(), Fail> {
     let generation = Generation::new(1).ok_or("a generation")?;
-    let (table, passes) = prepare::<AnySet, AnyReclaimer>(
+    let (table, passes) = prepare::<MichaelShape, NoReclaim>(
         rt.alloc(),
         1,
         2,
