@@ -16,7 +16,10 @@ use Rattle.list_facts.specs.Steps.{MayPublish}
 abbrev key_row : ℕ → ℕ → List ℕ
 key_row era k = set (fresh_row era 0) 4 (packed_number era k)
 
-no_link : (era : ℕ) → packed_number era 0 ≡ packed_link era record { flags = 0; target = None }
+abbrev empty : LinkParts
+empty = record { flags = 0; target = None }
+
+no_link : (era : ℕ) → packed_number era 0 ≡ packed_link era empty
 unfolding packed_number packed_link packed_ref
 no_link era = omega arith
 
@@ -24,14 +27,14 @@ key_word : (era k : ℕ) → packed_number era k ≡ packed_key era 0 k
 unfolding packed_number packed_key
 key_word era k = omega arith
 
-may_publish : (key : Key) (era k : ℕ) (l : LinkParts) → key.roots ≡ 1 → l.flags ≡ 0 → l.target ≡ None → k < 2 ^ 40 → MayPublish 0 key (at_root 0) 3 l (drop 3 (key_row era k)) None (Some (Insert k))
-may_publish key era k l one flags target fits = record {
+may_publish : (key : Key) (era k : ℕ) → key.roots ≡ 1 → k < 2 ^ 40 → MayPublish 0 key (at_root 0) 3 empty (drop 3 (key_row era k)) None (Some (Insert k))
+may_publish key era k one fits = record {
   field = refl;
-  flags_are = flags;
+  flags_are = refl;
   era = era;
   k = k;
   node = record {
-    link_is = no_link era ∙ ap (λ (t : Option RefParts). packed_link era record { flags = 0; target = t }) (sym target);
+    link_is = no_link era;
     key_is = key_word era k;
     key_fits = fits;
   };
@@ -43,12 +46,12 @@ may_publish key era k l one flags target fits = record {
 }
 
 -- what the steps before have made of the own record
-pub first_allowed : (key : Key) (v w : View) (r : RefParts) (k : ℕ) (l : LinkParts) → HasOwn v r (fresh_row r.generation 0) → w ≡ stored v r.index 4 (packed_number r.generation k) → key.roots ≡ 1 → l.flags ≡ 0 → l.target ≡ None → k < 2 ^ 40
-    → (row : List ℕ) × (next : Option Near) × HasOwn w r row × IsNextOf w l.target next × MayPublish 0 key (at_root 0) 3 l (drop 3 row) next (Some (Insert k))
-first_allowed key v w r k l own is one flags target fits = (
+pub first_allowed : (key : Key) (v w : View) (r : RefParts) (k : ℕ) → HasOwn v r (fresh_row r.generation 0) → w ≡ stored v r.index 4 (packed_number r.generation k) → key.roots ≡ 1 → k < 2 ^ 40
+    → (row : List ℕ) × (next : Option Near) × HasOwn w r row × IsNextOf w None next × MayPublish 0 key (at_root 0) 3 empty (drop 3 row) next (Some (Insert k))
+first_allowed key v w r k own is one fits = (
   key_row r.generation k,
   None,
   subst (λ (x : View). HasOwn x r (key_row r.generation k)) (sym is) (own_after v r (fresh_row r.generation 0) 4 (packed_number r.generation k) own),
-  subst (λ (t : Option RefParts). IsNextOf w t None) (sym target) at_end,
-  may_publish key r.generation k l one flags target fits,
+  at_end,
+  may_publish key r.generation k one fits,
 )

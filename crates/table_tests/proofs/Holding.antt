@@ -22,7 +22,7 @@ use Rattle.record_table.specs.declared.nodes.Held.{Held}
 use Rattle.record_table.specs.declared.passes.Pass.{Pass}
 use Rattle.record_table.specs.Handles.{view, since, IsSamePass}
 use Rattle.record_table.specs.Nodes.{HoldsThere, reach_at}
-use Rattle.table_tests.specs.First.{HasNote, HasKey, HoldsFirst, HoldsFound}
+use Rattle.table_tests.specs.First.{HasNote, HasKey, HasMark, HoldsFirst, HoldsFound}
 use Rattle.list_facts.specs.Michael.{michael}
 use Rattle.list_facts.specs.Steps.{list_settled, marked_with, key_in_note, key_noted, MayMark}
 use Rattle.reclaim_none.specs.Keeping.{none}
@@ -120,14 +120,24 @@ module _ (v w : View) (noted : HasNote v) where
     key_is = k.key_is;
   }
 
-  -- the marked link is noted, which no step changes any more
-  note_mark : (r : RefParts) (old new : LinkParts) (call : Option Call) → IsLink new → new.flags ≡ 1 → ExchangedLink michael v (from_place 0 r) 3 old new call w → At (note_in w.own.notes 0).words 0 (Some (packed_link r.generation new))
-  note_mark r old new call is_link mark told =
+  noting_here : (b : Bool) (r : RefParts) (n : ℕ) → b ≡ true → At (note_in (noting b v.own.notes (from_place 0 r) 3 n) 0).words 0 (Some n)
+  noting_here b r n settled = subst (λ (x : Note). At x.words 0 (Some n)) (sym (ap (λ z. note_in (noting z v.own.notes (from_place 0 r) 3 n) 0) settled ∙ noted_word v.own.notes (note_word (note_in v.own.notes 0) 3 n) noted.some))
+      (set_here (note_in v.own.notes 0).words 0 (Some n) (let f = noted.five in omega arith))
+
+  -- a link with a mark is noted, which no step changes any more: where it is loaded
+  note_loaded : (r : RefParts) (n : ℕ) → LoadedLink michael v (from_place 0 r) 3 n w → (link_in n).flags ≡ 1 → HasMark w (link_in n)
+  note_loaded r n told mark =
+      let link : link_in n ≡ told.link.link = ap link_in told.link.packed ∙ link_in-packed_link told.link.own told.link.link told.link.in_range in
+      let settled : list_settled 3 told.saw.body ≡ true = ap (λ (l : LinkParts). eqb (mark_bit l) 1) (ap link_in told.saw.word) ∙ ap (λ (f : ℕ). eqb (mark_bit record { flags = f; target = None }) 1) mark in
+      let same : n ≡ packed_link told.link.own (marked_with (link_in n)) = told.link.packed ∙ ap (packed_link told.link.own) (sym link ∙ ap (λ (f : ℕ). record { flags = f; target = (link_in n).target }) mark) in
+      (told.link.own, subst (λ (k : ℕ). At (note_in w.own.notes 0).words 0 (Some k)) same (subst (λ (x : View). At (note_in x.own.notes 0).words 0 (Some n)) (sym told.view) (noting_here (list_settled 3 told.saw.body) r n settled)))
+
+  -- and where it is left
+  note_left : (r : RefParts) (old new : LinkParts) (call : Option Call) → IsLink new → new.flags ≡ 1 → ExchangedLink michael v (from_place 0 r) 3 old new call w → At (note_in w.own.notes 0).words 0 (Some (packed_link r.generation new))
+  note_left r old new call is_link mark told =
       let link : link_at told.body 3 ≡ new = ap link_in told.word ∙ link_in-packed_link r.generation new is_link in
       let settled : list_settled 3 told.body ≡ true = ap (λ (l : LinkParts). eqb (mark_bit l) 1) link ∙ ap (λ (f : ℕ). eqb (mark_bit record { flags = f; target = None }) 1) mark in
-      let n : ℕ = packed_link r.generation new in
-      subst (λ (x : Note). At x.words 0 (Some n)) (sym (ap (λ (x : View). note_in x.own.notes 0) told.view ∙ ap (λ b. note_in (noting b v.own.notes (from_place 0 r) 3 n) 0) settled ∙ noted_word v.own.notes (note_word (note_in v.own.notes 0) 3 n) noted.some))
-      (set_here (note_in v.own.notes 0).words 0 (Some n) (let f = noted.five in omega arith))
+      subst (λ (x : View). At (note_in x.own.notes 0).words 0 (Some (packed_link r.generation new))) (sym told.view) (noting_here (list_settled 3 told.body) r (packed_link r.generation new) settled)
 
 -- a record whose key is known may be marked where its link has no flags
 pub may_mark : (v : View) (key : ℕ) (r : RefParts) (link new : LinkParts) → HasKey v key → link.flags ≡ 0 → new ≡ marked_with link → MayMark 0 v.key (near_of v (from_place 0 r)) 3 link new (Some (Remove key))
@@ -161,6 +171,9 @@ module _ {S R : Type 0} (p q : Pass S R) (r : RefParts) (same : IsSamePass p q) 
     key_is = refl;
   }
 
+  pub mark_loaded : (n : ℕ) → LoadedLink michael (view p) (from_place 0 r) 3 n (view q) → (link_in n).flags ≡ 1 → HasMark (view q) (link_in n)
+  mark_loaded n told mark = note_loaded (view p) (view q) first.noted r n told mark
+
   pub key_after_link : (n key : ℕ) → LoadedLink michael (view p) (from_place 0 r) 3 n (view q) → HasKey (view p) key → HasKey (view q) key
   key_after_link n key told = key_link (view p) (view q) first.noted r n key told
 
@@ -169,7 +182,7 @@ module _ {S R : Type 0} (p q : Pass S R) (r : RefParts) (same : IsSamePass p q) 
     after_exchange = still_after p q (record { place = 0; target = r }) same first.holds (ap (λ (v : View). v.own.guard) told.view)
 
     pub after_mark : IsLink new → new.flags ≡ 1 → At (note_in (view q).own.notes 0).words 0 (Some (packed_link r.generation new))
-    after_mark is_link mark = note_mark (view p) (view q) first.noted r old new call is_link mark told
+    after_mark is_link mark = note_left (view p) (view q) first.noted r old new call is_link mark told
 
 -- what is taken out may be retired
 pub taken_now : (v w : View) (o : Origin) (gone : RefParts) (new : LinkParts) → 0 < v.key.records → UnlinkedRecord michael v o 3 gone new w → (h : Share) × HasTaken w gone h
