@@ -1,10 +1,9 @@
 pub mod Clauses
-pub mod AddsLemmas
 pub mod PlainRuns
-pub mod PlayedLists
-pub mod PrintedCases
+pub mod PlayOrder
 pub mod ReadingLemmas
-pub mod ReportLines
-pub mod Verdicts
-pub mod WritingLemmas
+pub mod ReportedCallers
+pub mod Results
 pub mod Telling
+pub mod ToldCallers
+pub mod Verdicts

@@ -1,7 +1,6 @@
 -- What a source gave, of which `left` tells the bytes that are left, between two moments.
 use Rattle.std.specs.Prelude.{◌≡◌, ℕ, ◌<◌, ◌≤◌, List, length, Option}
 use Rattle.outside.specs.Bytes.{with_front, IsAllGiven}
-use Rattle.bench_core.specs.declared.reading.TheConstants.{MOST_BYTES}
 
 -- the source gave just these bytes
 abbrev pub Gave : {S : Type 0} → (S → Option (List ℕ)) → S → S → List ℕ → Type 0
@@ -12,10 +11,10 @@ pub record GaveAll {S : Type 0} (left : S → Option (List ℕ)) (before after :
   pub gave : Gave left before after bytes
   pub all : IsAllGiven (left after)
 
--- the source gave more bytes than a workload may have
+-- the source gave more bytes than a workload may have, by no more than one piece
 abbrev pub GaveTooMany : {S : Type 0} → (S → Option (List ℕ)) → S → S → Type 0
-GaveTooMany left before after = (given : List ℕ) × Gave left before after given × (MOST_BYTES < length given)
+GaveTooMany left before after = (given : List ℕ) × Gave left before after given × (67108864 < length given) × (length given ≤ 67112960)
 
 -- the source gave no more bytes than a workload may have
 abbrev pub GaveFew : {S : Type 0} → (S → Option (List ℕ)) → S → S → Type 0
-GaveFew left before after = (given : List ℕ) × Gave left before after given × (length given ≤ MOST_BYTES)
+GaveFew left before after = (given : List ℕ) × Gave left before after given × (length given ≤ 67108864)

@@ -1,11 +1,17 @@
 // How a run of the program ends.
-ghost use Rattle.std.specs.Prelude.{◌≡◌, None};
-ghost use Rattle.bench_core.specs.Ending.{Concludes};
-ghost use Rattle.bench_core.specs.Printed.{OnDone, OnWriteFault};
+ghost use Rattle.std.specs.Prelude.{◌≡◌, ◌≢◌, None};
+ghost use Rattle.bench_core.specs.Ending.{Concludes, HasText, Tells, any_full, has_full, status_of_run};
+ghost use Rattle.report_text.specs.LineTexts.{refusal_text};
+ghost use Rattle.report_text.specs.Printed.{OnDone, OnWriteFault};
 
-use crate::printing::{print_line, print_report};
-use crate::report::{Printed, Report};
+use lawful_pairs::Unlawful;
+use listed::Listed;
 use outside::Sink;
+use report_text::{
+    Checked, Played, Printed, Refusal, Report, WorkloadRefusal, print_checked, print_refusal,
+    print_report, print_summary, print_text,
+};
+use set_model::Reply;
 
 /// All was done.
 pub const DONE: u8 = 0;
@@ -13,6 +19,10 @@ pub const DONE: u8 = 0;
 pub const WORDS_REFUSED: u8 = 2;
 /// The bytes are no workload.
 pub const WORKLOAD_REFUSED: u8 = 3;
+/// The set may not be played under the reclaimer.
+pub const UNLAWFUL: u8 = 4;
+/// All was done, and some call was answered full.
+pub const DONE_WITH_FULL: u8 = 5;
 /// The source failed.
 pub const READ_FAULT: u8 = 6;
 /// The sink failed.
@@ -43,23 +53,65 @@ pub struct Ended {
 pub enum Verdict {
     /// The words are no command. Nothing was read.
     WordsRefused,
+    /// The words name a pair that isn't lawful. Nothing was read.
+    Unlawful(Unlawful),
     /// The source failed.
     ReadFault,
     /// The source gave more bytes than a workload may have.
     TooLong,
     /// The bytes are no workload.
-    WorkloadRefused,
+    WorkloadRefused(WorkloadRefusal),
     /// Memory ran out.
     OutOfMemory,
-    /// A workload was played.
+    /// A workload was read.
+    Checked(Checked),
+    /// A workload was made, and this is its text.
+    Generated(Listed<u8>),
+    /// A workload was read and played.
     Played(Run),
+    /// A workload was made and played.
+    Tried(Run),
+}
+
+/// Whether one of the replies is full.
+fn any_full(replies: &[Reply]) -> bool
+    ensures { result ≡ any_full replies.now }
+{
+    for reply in replies {
+        if matches!(reply, Reply::Full) {
+            return true;
+        }
+    }
+    false
+}
+
+/// Whether some call was answered full.
+fn has_full(callers: &[Played]) -> bool
+    ensures { result ≡ has_full callers.now }
+{
+    for played in callers {
+        if any_full(played.replies.as_slice()) {
+            return true;
+        }
+    }
+    false
+}
+
+/// The status of a run that was printed whole.
+fn status_of(run: &Run) -> u8
+    ensures { result ≡ status_of_run run.now }
+{
+    if has_full(run.report.callers.as_slice()) {
+        return DONE_WITH_FULL;
+    }
+    DONE
 }
 
 /// The end of a run that printed, and that has this status if all was printed.
 fn end_after(printed: Printed, status: u8, run: Option<Run>) -> Ended
     ensures run { result.run ≡ run }
     ensures done { OnDone printed (result.status ≡ status) }
-    ensures write_fault { OnWriteFault printed (result.status ≡ WRITE_FAULT) }
+    ensures write_fault { OnWriteFault printed (result.status ≡ 7) }
 {
     match printed {
         Printed::Done => Ended { status, run },
@@ -78,28 +130,49 @@ fn end_silently(status: u8) -> Ended
     Ended { status, run: None }
 }
 
+/// The end of a run that was refused, with this status if its line was printed.
+fn end_refused<K: Sink>(refusal: Refusal, status: u8, sink: &mut K) -> Ended
+    requires { status ≢ 7 }
+    ensures run { result.run ≡ None }
+    ensures tells { Tells K.got K.faults sink.old sink.new (refusal_text refusal) status result }
+{
+    let printed = print_refusal(refusal, sink);
+    end_after(printed, status, None)
+}
+
 /// Prints what the verdict owes.
 pub fn conclude<K: Sink>(verdict: Verdict, sink: &mut K) -> Ended
+    requires { HasText verdict }
     ensures { Concludes K.got K.faults sink.old sink.new verdict result }
 {
     match verdict {
-        Verdict::WordsRefused => {
-            let printed = print_line("setbench: words refused", sink);
-            end_after(printed, WORDS_REFUSED, None)
+        Verdict::WordsRefused => end_refused(Refusal::Words, WORDS_REFUSED, sink),
+        Verdict::Unlawful(Unlawful { set, reclaimer }) => {
+            end_refused(Refusal::Pair { set, reclaimer }, UNLAWFUL, sink)
         }
         Verdict::ReadFault => end_silently(READ_FAULT),
-        Verdict::TooLong => {
-            let printed = print_line("setbench: workload too long", sink);
-            end_after(printed, TOO_LONG, None)
-        }
-        Verdict::WorkloadRefused => {
-            let printed = print_line("setbench: workload refused", sink);
-            end_after(printed, WORKLOAD_REFUSED, None)
+        Verdict::TooLong => end_refused(Refusal::TooLong, TOO_LONG, sink),
+        Verdict::WorkloadRefused(reason) => {
+            end_refused(Refusal::Workload(reason), WORKLOAD_REFUSED, sink)
         }
         Verdict::OutOfMemory => end_silently(OUT_OF_MEMORY),
+        Verdict::Checked(checked) => {
+            let printed = print_checked(checked, sink);
+            end_after(printed, DONE, None)
+        }
+        Verdict::Generated(text) => {
+            let printed = print_text(text.as_slice(), sink);
+            end_after(printed, DONE, None)
+        }
         Verdict::Played(run) => {
             let printed = print_report(&run.report, sink);
-            end_after(printed, DONE, Some(run))
+            let status = status_of(&run);
+            end_after(printed, status, Some(run))
+        }
+        Verdict::Tried(run) => {
+            let printed = print_summary(&run.report, sink);
+            let status = status_of(&run);
+            end_after(printed, status, Some(run))
         }
     }
 }

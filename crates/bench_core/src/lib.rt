@@ -5,16 +5,17 @@
 mod ending;
 mod judging;
 mod playing;
-mod printer;
-mod printing;
 mod reading;
-pub mod report;
-mod report_printing;
+mod runs;
+mod settings;
 mod top;
-mod words;
 
 pub use ending::{Ended, OUT_OF_MEMORY, Run};
+pub use runs::{check_run, generate_run, play_run, trial_run};
+pub use settings::Settings;
 pub use top::setbench;
 
+#[cfg(test)]
+mod fault_tests;
 #[cfg(test)]
 mod tests;

@@ -1,16 +1,15 @@
-// Playing a workload on a plain set.
-ghost use Rattle.std.specs.Prelude.{◌≡◌, ◌+◌, ◌≤◌, List, [], length, sum_by, vec_capacity, IfOk, OnOk};
-ghost use Rattle.set_model.specs.Keys.{empty, size_of, sum_of};
+// Playing a workload on a plain set, phase by phase, and in each phase one caller after another.
+ghost use Rattle.std.specs.Prelude.{◌≡◌, ◌+◌, ◌≤◌, [], ◌++◌, length, vec_capacity, IfOk};
+ghost use Rattle.set_model.specs.Keys.{empty, size_of};
 ghost use Rattle.set_model.specs.Machine.{insertions_in, keys_after_all, replies_of};
-ghost use Rattle.workload_text.specs.Limits.{lists_of};
-ghost use Rattle.bench_core.specs.Plays.{joined, calls_of, replies_to, IsPlainRun};
+ghost use Rattle.bench_core.specs.Plays.{order_of, called, keys_left, AreReady, AreTold, IsPlainRun};
 
-use crate::report::{Played, Report};
 use listed::Listed;
 use outside::Gate;
+use report_text::{Played, Report};
 use set_model::{Call, Counts, OutOfMemory, PlainSet, ReclaimerName, Reply, SetName};
 use std::alloc::Global;
-use workload_text::{MOST_CALLERS, MOST_CALLS, Workload};
+use workload_text::Workload;
 
 /// A plain set has no records.
 const NO_COUNTS: Counts = Counts {
@@ -24,75 +23,15 @@ const NO_COUNTS: Counts = Counts {
     spent: 0,
 };
 
-/// Makes the calls in order, and notes the reply to each. There is room for each reply. The gate is
-/// told of each call before and after it.
-fn play_calls<G: Gate>(
-    gate: &G,
-    caller: u32,
-    set: &mut PlainSet,
-    calls: &[Call],
-    replies: &mut Vec<Reply>,
-)
-    requires few_calls { length calls.now ≤ MOST_CALLS }
-    requires room { size_of set.old.keys + insertions_in calls.now ≤ set.old.room }
-    requires none { replies.old.items ≡ [] }
-    requires room_for_replies { length calls.now ≤ vec_capacity replies.old }
-    ensures replies { replies.new.items ≡ replies_of calls.now set.old.keys }
-    ensures keys { set.new.keys ≡ keys_after_all calls.now set.old.keys }
-    ensures same_room { set.new.room ≡ set.old.room }
-{
-    for (i, call) in calls.iter().enumerate() {
-        let number = i as u32 + 1;
-        gate.before(caller, number);
-        replies.push(Reply::from(set.apply(*call))).unwrap();
-        gate.after(caller, number);
-    }
-}
-
-/// Plays the calls of one caller in order.
-fn play_caller<G: Gate>(
-    alloc: Global,
-    gate: &G,
-    caller: u32,
-    set: &mut PlainSet,
-    calls: Vec<Call>,
-) -> Result<Played, OutOfMemory>
-    requires few_calls { length calls.items ≤ MOST_CALLS }
-    requires room { size_of set.old.keys + insertions_in calls.items ≤ set.old.room }
-    ensures calls { IfOk result (λ played. played.calls ≡ calls.items) }
-    ensures replies { IfOk result (λ played. played.replies ≡ replies_of calls.items set.old.keys) }
-    ensures keys { OnOk result (set.new.keys ≡ keys_after_all calls.items set.old.keys) }
-    ensures same_room { set.new.room ≡ set.old.room }
-{
-    let mut replies = Vec::with_capacity(alloc, calls.len())?;
-    play_calls(gate, caller, set, &calls, &mut replies);
-    Ok(Played {
-        calls: Listed::of(calls),
-        replies: Listed::of(replies),
-    })
-}
-
-/// Plays the callers one after another, in order of number.
-fn play_callers<G: Gate>(
-    alloc: Global,
-    gate: &G,
-    set: &mut PlainSet,
-    lists: Vec<Vec<Call>>,
-) -> Result<Vec<Played>, OutOfMemory>
-    requires few_callers { length (lists_of lists.items) ≤ MOST_CALLERS }
-    requires few_calls { sum_by length (lists_of lists.items) ≤ MOST_CALLS }
-    requires room { size_of set.old.keys + insertions_in (joined (lists_of lists.items)) ≤ set.old.room }
-    ensures calls { IfOk result (λ callers. calls_of callers.items ≡ lists_of lists.items) }
-    ensures replies { IfOk result (λ callers.
-        joined (replies_to callers.items) ≡ replies_of (joined (lists_of lists.items)) set.old.keys) }
-    ensures keys { OnOk result (set.new.keys ≡ keys_after_all (joined (lists_of lists.items)) set.old.keys) }
-{
-    let mut callers = Vec::with_capacity(alloc, lists.len())?;
-    for calls in lists {
-        let caller = callers.len() as u32;
-        callers.push(play_caller(alloc, gate, caller, set, calls)?)?;
-    }
-    Ok(callers)
+/// All memory of a run: the set, the replies to each caller and what is reported of the callers.
+#[derive(Debug, Drop)]
+struct Memory {
+    /// It has room for each insertion.
+    set: PlainSet,
+    /// Of each caller, with room for each of its calls.
+    replies: Vec<Vec<Reply>>,
+    /// It has room for each caller.
+    callers: Vec<Played>,
 }
 
 /// How many of the calls insert.
@@ -105,31 +44,139 @@ fn insertions_in(calls: &[Call]) -> usize
         .count()
 }
 
-/// How many calls of the lists insert, all together.
-fn insertions_of(lists: &[Vec<Call>]) -> usize
-    requires { sum_by length (lists_of lists.now) ≤ MOST_CALLS }
-    ensures { result ≡ insertions_in (joined (lists_of lists.now)) }
+/// How many calls of the workload insert, all together.
+fn insertions_of(workload: &Workload) -> usize
+    ensures { result ≡ insertions_in (called (order_of workload.now.lists)) }
 {
     let mut total = 0;
-    for calls in lists {
-        total += insertions_in(calls);
+    for phase in 0..workload.phases() + 1 {
+        for caller in 0..workload.callers() {
+            total += insertions_in(workload.calls_in(caller, phase));
+        }
     }
     total
 }
 
-/// Plays a workload on a plain set, which starts empty, one caller after another.
-pub fn play<G: Gate>(alloc: Global, gate: &G, workload: Workload) -> Result<Report, OutOfMemory>
-    ensures { IfOk result (IsPlainRun workload) }
+/// Takes the list of the replies to each caller, with room for all of them.
+fn take_replies(alloc: Global, workload: &Workload) -> Result<Vec<Vec<Reply>>, OutOfMemory>
+    ensures { IfOk result (λ replies. AreReady workload.now.lists replies.items) }
 {
-    let lists = workload.into_lists();
-    let mut set = PlainSet::with_room(alloc, insertions_of(&lists))?;
-    let callers = play_callers(alloc, gate, &mut set, lists)?;
-    Ok(Report {
+    let mut replies = Vec::with_capacity(alloc, workload.callers() as usize)?;
+    for caller in 0..workload.callers() {
+        let own = Vec::with_capacity(alloc, workload.calls_of(caller).len())?;
+        replies.push(own)?;
+    }
+    Ok(replies)
+}
+
+/// Takes all memory that a run of the workload needs.
+fn take_memory(alloc: Global, workload: &Workload) -> Result<Memory, OutOfMemory>
+    ensures keys { IfOk result (λ memory. memory.set.keys ≡ empty) }
+    ensures room { IfOk result (λ memory. insertions_in (called (order_of workload.now.lists)) ≤ memory.set.room) }
+    ensures replies { IfOk result (λ memory. AreReady workload.now.lists memory.replies.items) }
+    ensures none { IfOk result (λ memory. memory.callers.items ≡ []) }
+    ensures callers { IfOk result (λ memory. length workload.now.lists ≤ vec_capacity memory.callers) }
+{
+    let set = PlainSet::with_room(alloc, insertions_of(workload))?;
+    let replies = take_replies(alloc, workload)?;
+    let callers = Vec::with_capacity(alloc, workload.callers() as usize)?;
+    Ok(Memory {
+        set,
+        replies,
+        callers,
+    })
+}
+
+/// Makes the calls in order, and notes the reply to each behind those to the calls before them. There
+/// is room for each reply. The gate is told of each call before and after it, with its number among
+/// all calls of the caller.
+fn play_calls<G: Gate>(
+    gate: &G,
+    caller: u32,
+    set: &mut PlainSet,
+    calls: &[Call],
+    replies: &mut Vec<Reply>,
+)
+    requires few_calls { length replies.old.items + length calls.now ≤ 1000000 }
+    requires room { size_of set.old.keys + insertions_in calls.now ≤ set.old.room }
+    requires room_for_replies { length replies.old.items + length calls.now ≤ vec_capacity replies.old }
+    ensures replies { replies.new.items ≡ replies.old.items ++ replies_of calls.now set.old.keys }
+    ensures same_capacity { vec_capacity replies.old ≤ vec_capacity replies.new }
+    ensures keys { set.new.keys ≡ keys_after_all calls.now set.old.keys }
+    ensures same_room { set.new.room ≡ set.old.room }
+{
+    for call in calls {
+        let number = replies.len() as u32 + 1;
+        gate.before(caller, number);
+        replies.push(Reply::from(set.apply(*call))).unwrap();
+        gate.after(caller, number);
+    }
+}
+
+/// Plays the workload phase by phase, and in each phase one caller after another, in order of number.
+/// It takes no memory.
+fn play_phases<G: Gate>(
+    gate: &G,
+    workload: &Workload,
+    set: &mut PlainSet,
+    replies: &mut [Vec<Reply>],
+)
+    requires empty { set.old.keys ≡ empty }
+    requires room { insertions_in (called (order_of workload.now.lists)) ≤ set.old.room }
+    requires ready { AreReady workload.now.lists replies.old }
+    ensures told { AreTold workload.now.lists replies.new }
+    ensures keys { set.new.keys ≡ keys_left workload.now.lists }
+{
+    let callers = workload.callers();
+    for phase in 0..workload.phases() + 1 {
+        for caller in 0..callers {
+            let calls = workload.calls_in(caller, phase);
+            play_calls(gate, caller, set, calls, &mut replies[caller as usize]);
+        }
+    }
+}
+
+/// What is reported of a workload that was played. It takes no memory.
+fn report_of(workload: Workload, memory: Memory) -> Report
+    requires told { AreTold workload.lists memory.replies.items }
+    requires keys { memory.set.keys ≡ keys_left workload.lists }
+    requires none { memory.callers.items ≡ [] }
+    requires room { length workload.lists ≤ vec_capacity memory.callers }
+    ensures { IsPlainRun workload result }
+{
+    let Memory {
+        set,
+        replies,
+        mut callers,
+    } = memory;
+    let mut replies = replies.into_iter();
+    for calls in workload.into_lists() {
+        let own = replies.next().unwrap();
+        let played = Played {
+            calls: Listed::of(calls),
+            replies: Listed::of(own),
+        };
+        callers.push(played).unwrap();
+    }
+    Report {
         set: SetName::Plain,
         reclaimer: ReclaimerName::Nothing,
         callers: Listed::of(callers),
         size: set.len() as u64,
         sum: set.sum() as u64,
         counts: NO_COUNTS,
-    })
+    }
+}
+
+/// Plays a workload on a plain set, which starts empty.
+pub fn play_plain<G: Gate>(
+    alloc: Global,
+    gate: &G,
+    workload: Workload,
+) -> Result<Report, OutOfMemory>
+    ensures { IfOk result (IsPlainRun workload) }
+{
+    let mut memory = take_memory(alloc, &workload)?;
+    play_phases(gate, &workload, &mut memory.set, &mut memory.replies);
+    Ok(report_of(workload, memory))
 }

@@ -1,4 +1,5 @@
 // The program over sources and sinks in memory.
+
 use super::*;
 use outside::{FreeGate, Gate, MemorySink, MemorySource, SteadySink, SteadySource};
 use std::alloc::{AllocError, Global};
@@ -7,20 +8,17 @@ use std::sync::atomic::{AtomicU32, Ordering};
 use std::test::Fail;
 use std::thread::Threads;
 
-const COMMAND: [&str; 5] = ["play", "--set", "plain", "--reclaimer", "none"];
+pub(crate) const COMMAND: [&str; 5] = ["play", "--set", "plain", "--reclaimer", "none"];
 
-const WORKLOAD: &str = "setbench 1\ncallers 1\ncaller 0\ni 5\ni 5\ns 5\nr 5\nr 5\ns 5\nend\n";
+pub(crate) const WORKLOAD: &str =
+    "setbench 1\ncallers 1\ncaller 0\ni 5\ni 5\ns 5\nr 5\nr 5\ns 5\nend\n";
 
-const REPORT: &str =
+pub(crate) const REPORT: &str =
     "set plain reclaimer none callers 1 calls 6\ncaller 0\ni 5 yes\ni 5 no\ns 5 yes\nr 5 yes\nr 5 no\ns 5 no\nsize 0 sum 0\nrecords drawn 0 reused 0 retired 0 freed 0 limbo 0 free 0 spare 0 spent 0\n";
 
 const WORDS_LINE: &str = "setbench: words refused\n";
 
-const WORKLOAD_LINE: &str = "setbench: workload refused\n";
-
-const LENGTH_LINE: &str = "setbench: workload too long\n";
-
-fn words_of(alloc: Global, words: &[&str]) -> Result<Vec<String>, AllocError> {
+pub(crate) fn words_of(alloc: Global, words: &[&str]) -> Result<Vec<String>, AllocError> {
     let mut all = Vec::new(alloc);
     for word in words {
         all.push(String::from_str(alloc, word)?)?;
@@ -30,15 +28,15 @@ fn words_of(alloc: Global, words: &[&str]) -> Result<Vec<String>, AllocError> {
 
 /// How a run ended, and what its sink got.
 #[derive(Debug, Drop)]
-struct Outcome {
-    status: u8,
-    has_run: bool,
-    got: Vec<u8>,
+pub(crate) struct Outcome {
+    pub(crate) status: u8,
+    pub(crate) has_run: bool,
+    pub(crate) got: Vec<u8>,
 }
 
 /// Runs the program on bytes. The source and the sink fail at the calls that are listed, and the sink
 /// takes at most `most` bytes at a call.
-fn run_on<T: Threads + Wait + Sync>(
+pub(crate) fn run_on<T: Threads + Wait + Sync>(
     rt: &T,
     alloc: Global,
     words: &[&str],
@@ -49,7 +47,7 @@ fn run_on<T: Threads + Wait + Sync>(
 ) -> Result<Outcome, Fail> {
     let words = words_of(alloc, words)?;
     let mut source = MemorySource::new(bytes.to_vec(alloc)?, source_fails.to_vec(alloc)?);
-    let room = Vec::with_capacity(alloc, 4096)?;
+    let room = Vec::with_capacity(alloc, 8192)?;
     let mut sink = MemorySink::new(room, most.max(1), sink_fails.to_vec(alloc)?);
     let ended = setbench(rt, alloc, &words, &mut source, &mut sink, &FreeGate);
     Ok(Outcome {
@@ -78,35 +76,60 @@ fn plays_one_caller(rt: HostRuntime) -> Result<(), Fail> {
     Ok(())
 }
 
-/// Counts the calls that it is told of, and keeps the number of the last one.
+/// Notes each `before` and `after` in order, in the places of an array.
 #[derive(Drop)]
-struct CountingGate {
-    before: AtomicU32,
-    after: AtomicU32,
-    last: AtomicU32,
+struct NotingGate {
+    count: AtomicU32,
+    notes: [AtomicU32; 12],
 }
 
-impl Gate for CountingGate {
-    fn before(&self, _caller: u32, call: u32) {
-        self.before.fetch_add(1, Ordering::SeqCst);
-        self.last.store(call, Ordering::SeqCst);
-    }
-
-    fn after(&self, _caller: u32, _call: u32) {
-        self.after.fetch_add(1, Ordering::SeqCst);
+impl NotingGate {
+    fn note(&self, after: u32, caller: u32, call: u32) {
+        let place = self.count.fetch_add(1, Ordering::SeqCst) as usize;
+        if place < 12 {
+            let text = after
+                .wrapping_add(caller.wrapping_mul(10))
+                .wrapping_add(call.wrapping_mul(100));
+            self.notes[place].store(text, Ordering::SeqCst);
+        }
     }
 }
+
+impl Gate for NotingGate {
+    fn before(&self, caller: u32, call: u32) {
+        self.note(0, caller, call);
+    }
+
+    fn after(&self, caller: u32, call: u32) {
+        self.note(1, caller, call);
+    }
+}
+
+const PHASES: &str =
+    "setbench 2\ncallers 2\ncaller 0\ns 1\nphase\ns 1\nr 2\ncaller 1\ni 1\nphase\ns 1\ni 1\nend\n";
 
 #[test]
-fn tells_the_gate_of_each_call(rt: HostRuntime) -> Result<(), Fail> {
+fn tells_the_gate_of_each_call_in_order(rt: HostRuntime) -> Result<(), Fail> {
     let alloc = rt.alloc();
-    let gate = CountingGate {
-        before: AtomicU32::new(0),
-        after: AtomicU32::new(0),
-        last: AtomicU32::new(0),
+    let gate = NotingGate {
+        count: AtomicU32::new(0),
+        notes: [
+            AtomicU32::new(0),
+            AtomicU32::new(0),
+            AtomicU32::new(0),
+            AtomicU32::new(0),
+            AtomicU32::new(0),
+            AtomicU32::new(0),
+            AtomicU32::new(0),
+            AtomicU32::new(0),
+            AtomicU32::new(0),
+            AtomicU32::new(0),
+            AtomicU32::new(0),
+            AtomicU32::new(0),
+        ],
     };
     let words = words_of(alloc, &COMMAND)?;
-    let mut source = SteadySource::new(WORKLOAD.as_bytes().to_vec(alloc)?);
+    let mut source = SteadySource::new(PHASES.as_bytes().to_vec(alloc)?);
     let ended = setbench(
         &rt,
         alloc,
@@ -116,22 +139,142 @@ fn tells_the_gate_of_each_call(rt: HostRuntime) -> Result<(), Fail> {
         &gate,
     );
     assert_eq!(rt; ended.status, 0);
-    assert_eq!(rt; gate.before.load(Ordering::SeqCst), 6);
-    assert_eq!(rt; gate.after.load(Ordering::SeqCst), 6);
-    assert_eq!(rt; gate.last.load(Ordering::SeqCst), 6);
+    assert_eq!(rt; gate.count.load(Ordering::SeqCst), 12);
+    // The call's number, the caller's, and 1 behind the call.
+    let due = [100, 101, 110, 111, 200, 201, 300, 301, 210, 211, 310, 311];
+    for (i, wanted) in due.iter().enumerate() {
+        assert_eq!(rt; gate.notes[i].load(Ordering::SeqCst), *wanted, "place {i}");
+    }
+    Ok(())
+}
+
+#[test]
+fn plays_phase_by_phase(rt: HostRuntime) -> Result<(), Fail> {
+    let end = run_on(&rt, rt.alloc(), &COMMAND, PHASES.as_bytes(), &[], 4096, &[])?;
+    assert_eq!(rt; end.status, 0);
+    let report =
+        "set plain reclaimer none callers 2 calls 6\ncaller 0\ns 1 no\ns 1 yes\nr 2 no\ncaller 1\ni 1 yes\ns 1 yes\ni 1 no\nsize 1 sum 1\nrecords drawn 0 reused 0 retired 0 freed 0 limbo 0 free 0 spare 0 spent 0\n";
+    assert_eq!(rt; end.got.as_slice(), report.as_bytes());
+    Ok(())
+}
+
+#[test]
+fn unlawful_pairs_read_nothing(rt: HostRuntime) -> Result<(), Fail> {
+    let rows = [
+        (
+            "lazy",
+            "hazard",
+            "setbench: lazy under hazard is not lawful\n",
+        ),
+        (
+            "lazy",
+            "2geibr",
+            "setbench: lazy under 2geibr is not lawful\n",
+        ),
+        (
+            "plain",
+            "debra",
+            "setbench: plain under debra is not lawful\n",
+        ),
+    ];
+    for (set, reclaimer, line) in rows {
+        let words = ["play", "--set", set, "--reclaimer", reclaimer];
+        // A source that fails at its first call would be noticed.
+        let end = run_on(&rt, rt.alloc(), &words, b"", &[1], 4096, &[])?;
+        assert_eq!(rt; end.status, 4, "{set} {reclaimer}");
+        assert_eq!(rt; end.got.as_slice(), line.as_bytes(), "{set} {reclaimer}");
+    }
+    Ok(())
+}
+
+#[test]
+fn other_commands(rt: HostRuntime) -> Result<(), Fail> {
+    let alloc = rt.alloc();
+    let end = run_on(&rt, alloc, &["check"], PHASES.as_bytes(), &[], 4096, &[])?;
+    assert_eq!(rt; end.status, 0);
+    assert_eq!(rt;
+        end.got.as_slice(),
+        b"ok callers 2 calls 6 phases 1\n".as_slice()
+    );
+    let end = run_on(&rt, alloc, &["check"], WORKLOAD.as_bytes(), &[], 4096, &[])?;
+    assert_eq!(rt; end.got.as_slice(), b"ok callers 1 calls 6\n".as_slice());
+    Ok(())
+}
+
+/// The words `generate` or those of a trial on the plain set, with these numbers behind them.
+pub(crate) fn makes(
+    alloc: Global,
+    trial: bool,
+    numbers: [&'static str; 4],
+) -> Result<Vec<&'static str>, AllocError> {
+    let mut words = Vec::new(alloc);
+    if trial {
+        words.extend_from_slice(&["trial", "--set", "plain", "--reclaimer", "none"])?;
+    } else {
+        words.push("generate")?;
+    }
+    for (name, number) in ["--callers", "--calls", "--keys", "--seed"]
+        .iter()
+        .zip(numbers)
+    {
+        words.push(*name)?;
+        words.push(number)?;
+    }
+    Ok(words)
+}
+
+// The texts are those of another program, which draws the words by PCG's description and plays on a set of Python's.
+#[test]
+fn makes_and_plays_workloads(rt: HostRuntime) -> Result<(), Fail> {
+    let alloc = rt.alloc();
+    let rows = [
+        (
+            false,
+            ["2", "0", "1", "7"],
+            "setbench 1\ncallers 2\ncaller 0\ncaller 1\nend\n",
+        ),
+        (
+            false,
+            ["2", "4", "10", "7"],
+            "setbench 1\ncallers 2\ncaller 0\ni 4\ns 14\ni 4\ni 14\ncaller 1\nr 13\ni 3\ni 3\ns 19\nend\n",
+        ),
+        (
+            true,
+            ["2", "40", "5", "7"],
+            "trial plain none callers 2 calls 80\ninserted 16 removed 12 found 11\nsize 4 sum 17\n",
+        ),
+        (
+            true,
+            ["4", "200", "1000", "7"],
+            "trial plain none callers 4 calls 800\ninserted 371 removed 13 found 12\nsize 358 sum 743185\n",
+        ),
+    ];
+    for (trial, numbers, text) in rows {
+        // A source that fails at its first call would be noticed.
+        let end = run_on(
+            &rt,
+            alloc,
+            &makes(alloc, trial, numbers)?,
+            b"",
+            &[1],
+            4096,
+            &[],
+        )?;
+        assert_eq!(rt; end.status, 0, "at {numbers:?}");
+        assert_eq!(rt; end.has_run, trial, "at {numbers:?}");
+        assert_eq!(rt; end.got.as_slice(), text.as_bytes(), "at {numbers:?}");
+    }
     Ok(())
 }
 
 #[test]
 fn refuses_other_words(rt: HostRuntime) -> Result<(), Fail> {
-    let cases: [&[&str]; 7] = [
+    let cases: [&[&str]; 5] = [
         &[],
         &["play"],
         &["play", "--set", "plain"],
-        &["play", "--reclaimer", "none", "--set", "plain"],
         &["play", "--set", "michael", "--reclaimer", "none"],
         &["play", "--set", "plain", "--reclaimer", "none", "--shared"],
-        &["Play", "--set", "plain", "--reclaimer", "none"],
     ];
     for words in cases {
         let end = run_on(&rt, rt.alloc(), words, WORKLOAD.as_bytes(), &[1], 4096, &[])?;
@@ -146,64 +289,26 @@ fn refuses_other_words(rt: HostRuntime) -> Result<(), Fail> {
 
 #[test]
 fn refuses_what_is_no_workload(rt: HostRuntime) -> Result<(), Fail> {
-    let cases: [&[u8]; 15] = [
-        b"",
-        b"setbench 1\ncallers 1\ncaller 0\ni 5\nend",
-        b"setbench 1\r\ncallers 1\r\ncaller 0\r\nend\r\n",
-        b"setbench 1\ncallers 1\ncaller 0\ni \x005\nend\n",
-        b"setbench 1\ncallers 1\ncaller 0\ni \xff\nend\n",
-        b"setbench 1\ncallers 1\ncaller 0\ni 05\nend\n",
-        b"setbench 1\ncallers 1\ncaller 0\ni -1\nend\n",
-        b"setbench 1\ncallers 1\ncaller 0\ni 4294967296\nend\n",
-        b"setbench 1\ncallers 1\ncaller 0\ncaller 0\nend\n",
-        b"setbench 1\ncallers 1\ncaller 0\nend\nx",
-        b"setbench 1\ncallers 1\ncaller 0\nend\nend\n",
-        b"setbench 1\ncallers 2\ncaller 0\ncaller 1\nend\n",
-        b"setbench 3\n",
-        b"setbench 1\ncallers 17\n",
-        b"setbench 1\ncallers 1\ncaller 0\ni 5\n",
+    let cases = [
+        ("setbench 3\n", "line 1: header"),
+        ("setbench 1\ncallers 65\n", "line 2: callers"),
+        (
+            "setbench 1\ncallers 1\ncaller 0\ni 05\nend\n",
+            "line 4: bad line",
+        ),
+        (
+            "setbench 1\ncallers 1\ncaller 0\ni 1099511627774\nend\n",
+            "line 4: key out of range",
+        ),
+        ("setbench 1\ncallers 1\ncaller 0\ni 5\n", "no end"),
+        ("", "no end"),
     ];
-    for bytes in cases {
-        let end = run_on(&rt, rt.alloc(), &COMMAND, bytes, &[], 4096, &[])?;
-        assert_eq!(rt; end.status, 3, "at {bytes:?}");
-        assert_eq!(rt;
-            end.got.as_slice(),
-            WORKLOAD_LINE.as_bytes(),
-            "at {bytes:?}"
-        );
-        assert!(rt; !end.has_run, "at {bytes:?}");
+    for (text, cause) in cases {
+        let end = run_on(&rt, rt.alloc(), &COMMAND, text.as_bytes(), &[], 4096, &[])?;
+        let line = format!(in rt.alloc(); "setbench: workload refused: {cause}\n")?;
+        assert_eq!(rt; end.status, 3, "at {text}");
+        assert_eq!(rt; end.got.as_slice(), line.as_bytes(), "at {text}");
+        assert!(rt; !end.has_run, "at {text}");
     }
-    Ok(())
-}
-
-#[test]
-fn ends_at_the_first_fault(rt: HostRuntime) -> Result<(), Fail> {
-    let bytes = WORKLOAD.as_bytes();
-    for fails in 1..3 {
-        let end = run_on(&rt, rt.alloc(), &COMMAND, bytes, &[fails], 4096, &[])?;
-        assert_eq!(rt; end.status, 6, "at {fails}");
-        assert_eq!(rt; end.got.as_slice(), b"".as_slice(), "at {fails}");
-        assert!(rt; !end.has_run, "at {fails}");
-    }
-    let end = run_on(&rt, rt.alloc(), &COMMAND, bytes, &[], 10, &[3])?;
-    assert_eq!(rt; end.status, 7);
-    assert_eq!(rt; end.got.as_slice(), b"set plain reclaimer ".as_slice());
-    assert!(rt; end.has_run);
-    let end = run_on(&rt, rt.alloc(), &COMMAND, b"setbench 2\n", &[], 10, &[2])?;
-    assert_eq!(rt; end.status, 7);
-    assert_eq!(rt; end.got.as_slice(), b"setbench: ".as_slice());
-    assert!(rt; !end.has_run);
-    Ok(())
-}
-
-#[test]
-fn refuses_a_workload_that_is_too_long(rt: HostRuntime) -> Result<(), Fail> {
-    let alloc = rt.alloc();
-    let bytes = vec![in alloc; b'x'; 67_108_865]?;
-    let end = run_on(&rt, rt.alloc(), &COMMAND, &bytes, &[], 4096, &[])?;
-    assert_eq!(rt; end.status, 9);
-    assert_eq!(rt; end.got.as_slice(), LENGTH_LINE.as_bytes());
-    let end = run_on(&rt, rt.alloc(), &COMMAND, &bytes[1..], &[], 4096, &[])?;
-    assert_eq!(rt; end.status, 3);
     Ok(())
 }

@@ -1,27 +1,34 @@
 // The program, from its words and its source to its sink and its status.
-ghost use Rattle.std.specs.Prelude.{◌≡◌, ◌≢◌, ◌↔◌, ◌⊎◌, List, Some, IsSome, IfSome};
-ghost use Rattle.outside.specs.Faults.{Rose};
-ghost use Rattle.set_model.specs.declared.calls.Call.{Call};
-ghost use Rattle.workload_text.specs.Text.{text_of, IsTextOfOneCaller};
-ghost use Rattle.bench_core.specs.Ending.{Ends, Finds, GaveNoWorkload, GaveSomeWorkload, GaveRun, IsQuiet, IsStopped, output_at, output_of, run_of};
+ghost use Rattle.std.specs.Prelude.{◌≡◌, ◌≢◌, ◌↔◌, ◌⊎◌, ℕ, true, List, [], Some, IsSome};
+ghost use Rattle.command_words.specs.Commands.{IsCommand};
+ghost use Rattle.command_words.specs.Words.{texts_of};
+ghost use Rattle.command_words.specs.declared.command.Command.TheVariants as command;
+ghost use Rattle.command_words.specs.declared.command.Workloads.{Workloads};
+ghost use Rattle.lawful_pairs.specs.declared.Unlawful.{Unlawful};
+ghost use Rattle.outside.specs.Faults.{Rose, one_more};
+ghost use Rattle.report_text.specs.LineTexts.{checked_text, refusal_text};
+ghost use Rattle.report_text.specs.Writing.{Wrote, WrotePart};
+ghost use Rattle.report_text.specs.declared.refusal.Refusal.TheVariants as refusal;
+ghost use Rattle.report_text.specs.declared.refusal.WorkloadRefusal.{WorkloadRefusal};
+ghost use Rattle.workload_text.specs.Limits.{Plan};
+ghost use Rattle.workload_text.specs.Text.{text_of};
+ghost use Rattle.bench_core.specs.Clauses.{AreAllowed, AreNotRead, AreRead, AreUnlawful, ArePlayed, GaveRefused, GaveSomeWorkload, HoldsWorkload, IsDone, IsQuiet, IsRunOf, IsStopped, NamesPair};
+ghost use Rattle.bench_core.specs.Ending.{AreNoCommand, Ends, Finds, GaveNoWorkload, GaveWorkload, IsMade, has_full, output_of, run_of};
 ghost use Rattle.bench_core.specs.Reading.{GaveTooMany};
-ghost use Rattle.bench_core.specs.Words.{IsLawful};
-ghost use Rattle.bench_core.specs.Writing.{Wrote, WrotePart};
+ghost use Rattle.bench_core.specs.Sizes.{sizes_of};
+ghost use Rattle.bench_core.specs.declared.ending.Run.{Run};
 ghost use Rattle.bench_core.specs.declared.ending.Verdict.{Verdict};
 
-use crate::ending::{
-    DONE, Ended, OUT_OF_MEMORY, READ_FAULT, TOO_LONG, WORDS_REFUSED, WORKLOAD_REFUSED, WRITE_FAULT,
-    conclude,
-};
+use crate::ending::{Ended, conclude};
 use crate::judging::judge;
 use outside::{Gate, Sink, Source};
 use std::alloc::Global;
 use std::sync::Wait;
 use std::thread::Threads;
 
-/// Does what the words say: reads a workload from the source, plays it, and prints its report to the
-/// sink. `words` are those of the command without the program's name. The clauses on what was read
-/// speak of a source that tells its bytes, and those on what was written of a sink that does.
+/// Does what the words say: reads, makes and plays a workload, and prints what is due to the sink.
+/// `words` are those of the command without the program's name. The clauses on what was read speak
+/// of a source that tells its bytes, and those on what was written of a sink that does.
 pub fn setbench<T: Threads + Wait + Sync, S: Source, K: Sink, G: Gate + Sync>(
     _rt: &T,
     alloc: Global,
@@ -31,50 +38,73 @@ pub fn setbench<T: Threads + Wait + Sync, S: Source, K: Sink, G: Gate + Sync>(
     gate: &G,
 ) -> Ended
     // The whole: the words and the source come to a verdict, and this is told to the sink.
-    ensures ends { Ends S.left S.faults K.got K.faults words.now source.old source.new sink.old sink.new result }
+    ensures ends { Ends S.left S.faults K.got K.faults (texts_of words.now) source.old source.new sink.old sink.new result }
 
-    // Where the words are refused, nothing is read.
-    ensures words_refused { (result.status ≡ WORDS_REFUSED)
-        ↔ ((IsLawful words.now → ⊥) × (result.status ≢ WRITE_FAULT)) }
-    ensures unread { (IsLawful words.now → ⊥) → source.new ≡ source.old }
+    // Where the words or the pair are refused, and where a workload is made, nothing is read.
+    ensures words_refused { (result.status ≡ 2) ↔ (AreNoCommand (texts_of words.now) × (result.status ≢ 7)) }
+    ensures words_unread { AreNoCommand (texts_of words.now) → source.new ≡ source.old }
+    ensures unlawful { (result.status ≡ 4) ↔ (AreUnlawful (texts_of words.now) × (result.status ≢ 7)) }
+    ensures unread { AreNotRead (texts_of words.now) → source.new ≡ source.old }
 
-    // What stopped the run. Want of memory is free where the words are lawful.
-    ensures read_fault { result.status ≡ READ_FAULT → Rose (S.faults source.old) (S.faults source.new) }
-    ensures write_fault { result.status ≡ WRITE_FAULT → Rose (K.faults sink.old) (K.faults sink.new) }
-    ensures out_of_memory { result.status ≡ OUT_OF_MEMORY → IsLawful words.now }
+    // What stopped the run: the first fault, which is the only one. Want of memory is free where the words
+    // and the pair are accepted.
+    ensures read_fault { result.status ≡ 6
+        → AreRead (texts_of words.now) × (S.faults source.new ≡ one_more (S.faults source.old)) }
+    ensures no_read_fault { result.status ≢ 6 → S.faults source.new ≡ S.faults source.old }
+    ensures write_fault { result.status ≡ 7 → K.faults sink.new ≡ one_more (K.faults sink.old) }
+    ensures no_write_fault { result.status ≢ 7 → K.faults sink.new ≡ K.faults sink.old }
+    ensures out_of_memory { result.status ≡ 8 → AreAllowed (texts_of words.now) }
+    ensures quiet { IsQuiet result.status → sink.new ≡ sink.old }
 
     // What the source gave.
-    ensures too_long { IsSome (S.left source.old) → ((result.status ≡ TOO_LONG)
-        ↔ (GaveTooMany S.left source.old source.new × (result.status ≢ WRITE_FAULT))) }
-    ensures workload_refused { IsSome (S.left source.old) → ((result.status ≡ WORKLOAD_REFUSED)
-        ↔ (IsLawful words.now × GaveNoWorkload S.left source.old source.new × (IsStopped result.status → ⊥))) }
-    ensures done { IsSome (S.left source.old) → ((result.status ≡ DONE)
-        ↔ (IsLawful words.now × GaveSomeWorkload S.left source.old source.new × (IsStopped result.status → ⊥))) }
+    ensures too_long { IsSome (S.left source.old) → ((result.status ≡ 9)
+        ↔ (GaveTooMany S.left source.old source.new × (result.status ≢ 7))) }
+    ensures workload_refused { IsSome (S.left source.old) → ((result.status ≡ 3)
+        ↔ (AreRead (texts_of words.now) × GaveRefused S.left source.old source.new × (IsStopped result.status → ⊥))) }
+    ensures done { IsSome (S.left source.old) → (IsDone result.status
+        ↔ (AreAllowed (texts_of words.now) × (AreRead (texts_of words.now) → GaveSomeWorkload S.left source.old source.new)
+        × (IsStopped result.status → ⊥))) }
 
-    // A workload is played to the end, unless a fault or want of memory comes.
-    ensures complete { (lists : List (List Call)) → IsLawful words.now → S.left source.old ≡ Some (text_of lists)
-        → IsTextOfOneCaller (text_of lists) lists
-        → (Rose (S.faults source.old) (S.faults source.new) → ⊥) → (Rose (K.faults sink.old) (K.faults sink.new) → ⊥)
-        → (result.status ≡ DONE) ⊎ (result.status ≡ OUT_OF_MEMORY) }
+    // Where the words are accepted and a workload is there to be read, all is done, unless a source or a
+    // sink that counts its faults met one, or memory ran out.
+    ensures complete { AreAllowed (texts_of words.now)
+        → (AreRead (texts_of words.now) → HoldsWorkload S.left source.old)
+        → ¬ (Rose (S.faults source.old) (S.faults source.new)) → ¬ (Rose (K.faults sink.old) (K.faults sink.new))
+        → IsDone result.status ⊎ (result.status ≡ 8) }
 
-    // The run, and what it reports: what the set machine gives to the calls that were read.
-    ensures run_done { result.status ≡ DONE → IsSome result.run }
-    ensures run { IsSome (S.left source.old) → (IsSome result.run
-        ↔ (IsLawful words.now × GaveSomeWorkload S.left source.old source.new
-        × ((result.status ≡ DONE) ⊎ (result.status ≡ WRITE_FAULT)))) }
-    ensures report { IfSome result.run (GaveRun S.left source.old source.new) }
+    // A run is there where `play` or `trial` was done, or was stopped while its report or summary was printed.
+    ensures run_done { ArePlayed (texts_of words.now) → IsDone result.status → IsSome result.run }
+    ensures run { (run : Run) → result.run ≡ Some run → (IsDone result.status ⊎ (result.status ≡ 7))
+        × (text : List ℕ) × IsRunOf S.left source.old source.new (texts_of words.now) run text
+        × (result.status ≢ 7 → Wrote K.got sink.old sink.new text)
+        × (result.status ≡ 7 → WrotePart K.got sink.old sink.new text) }
+    ensures full { (result.status ≡ 5) ↔ ((run : Run) × (result.run ≡ Some run)
+        × (has_full run.report.callers ≡ true) × (result.status ≢ 7)) }
 
-    // What is written: the report or the line of a refusal, whole or up to the put that failed.
-    ensures output { result.status ≢ WRITE_FAULT → Wrote K.got sink.old sink.new (output_at result) }
-    ensures part { result.status ≡ WRITE_FAULT → (verdict : Verdict)
-        × Finds S.left S.faults words.now source.old source.new verdict
-        × (result.run ≡ run_of verdict) × WrotePart K.got sink.old sink.new (output_of verdict) }
-    ensures quiet { IsQuiet result.status → sink.new ≡ sink.old }
+    // What is written where no run is told of: the line of a refusal, that of `check`, or a workload's text.
+    ensures words_line { result.status ≡ 2 → Wrote K.got sink.old sink.new (refusal_text refusal.Words) }
+    ensures pair_line { result.status ≡ 4 → (pair : Unlawful) × NamesPair (texts_of words.now) pair
+        × Wrote K.got sink.old sink.new (refusal_text (refusal.Pair pair.set pair.reclaimer)) }
+    ensures length_line { result.status ≡ 9 → Wrote K.got sink.old sink.new (refusal_text refusal.TooLong) }
+    ensures workload_line { result.status ≡ 3 → (cause : WorkloadRefusal)
+        × GaveNoWorkload S.left source.old source.new cause
+        × Wrote K.got sink.old sink.new (refusal_text (refusal.Workload cause)) }
+    ensures checked { IsCommand (texts_of words.now) command.Check → result.status ≡ 0 → (plan : Plan)
+        × GaveWorkload S.left source.old source.new plan
+        × Wrote K.got sink.old sink.new (checked_text (sizes_of plan)) }
+    ensures generated { (chosen : Workloads) → IsCommand (texts_of words.now) (command.Generate chosen)
+        → result.status ≡ 0 → (plan : Plan) × IsMade chosen plan × Wrote K.got sink.old sink.new (text_of plan) }
+
+    // A write fault comes while what is due is printed, and something was due.
+    ensures part { result.status ≡ 7 → (found : Verdict)
+        × Finds S.left (texts_of words.now) source.old source.new found
+        × (result.run ≡ run_of found) × (output_of found ≢ []) × WrotePart K.got sink.old sink.new (output_of found) }
 {
     end_of(alloc, words, source, sink, gate)
 }
 
 /// The run, with all of its facts in one.
+#[tactic(auto, using(crate::proofs::Clauses::finds_text))]
 fn end_of<S: Source, K: Sink, G: Gate>(
     alloc: Global,
     words: &[String],
@@ -82,7 +112,8 @@ fn end_of<S: Source, K: Sink, G: Gate>(
     sink: &mut K,
     gate: &G,
 ) -> Ended
-    ensures { Ends S.left S.faults K.got K.faults words.now source.old source.new sink.old sink.new result }
+    ensures { Ends S.left S.faults K.got K.faults (texts_of words.now) source.old source.new sink.old sink.new result }
 {
-    conclude(judge(alloc, gate, words, source), sink)
+    let verdict = judge(alloc, gate, words, source);
+    conclude(verdict, sink)
 }

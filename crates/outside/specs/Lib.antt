@@ -1,4 +1,5 @@
 pub mod Bytes
+pub mod Edges
 pub mod Faults
 pub mod Memory
 pub mod Putting

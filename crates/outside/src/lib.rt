@@ -3,8 +3,9 @@
 //! A `Source` gives bytes and a `Sink` takes them. Each may fail at any call, and each keeps a count
 //! of faults that never falls and that rises where a call fails: so a program that reports a read or
 //! a write fault has to have met one. Those of this crate raise it nowhere else. Where a source or a
-//! sink tells its bytes, contracts name them: the ones in memory do, and those over std's readers and
-//! writers, the trusted edge, tell nothing.
+//! sink tells its bytes, contracts name them: the ones in memory do. Those over std's readers and
+//! writers, the trusted edge, tell nothing as sources and sinks, but say what each call did with the
+//! reader or the writer, where std tells the bytes of that.
 #![tactic(auto)]
 
 mod gate;

@@ -1,7 +1,7 @@
 // The trait of sources.
-ghost use Rattle.std.specs.Prelude.{◌≡◌, ℕ, ◌<◌, ◌≤◌, List, Option, length, take};
+ghost use Rattle.std.specs.Prelude.{◌≡◌, ◌≢◌, ℕ, ◌<◌, ◌≤◌, List, Option, length, take};
 ghost use Rattle.outside.specs.Bytes.{with_front, IsAllGiven};
-ghost use Rattle.outside.specs.Faults.{Rose};
+ghost use Rattle.outside.specs.Faults.{Rose, one_more};
 ghost use Rattle.outside.specs.Taking.{IfBytes, OnEnd, OnFailed};
 
 /// What one call of a source came to.
@@ -25,7 +25,8 @@ pub trait Source {
 
     /// Writes the next bytes to the front of `into`, which isn't empty. `Bytes` has their number, from
     /// 1 to the length of `into`. `End` comes exactly where nothing is left and the call doesn't fail,
-    /// and `Failed` only where the count of faults rose. The next call goes on from there.
+    /// and `Failed` only where the count of faults rose. A call that doesn't fail leaves the count. The
+    /// next call goes on from there.
     fn take(&mut self, into: &mut [u8]) -> Taking
         requires room { 0 < length into.old }
         ensures some { IfBytes result (λ n. 0 < n) }
@@ -38,5 +39,7 @@ pub trait Source {
 
         ensures failed { OnFailed result (Rose (faults self.old) (faults self.new)) }
         ensures failed_kept { OnFailed result (left self.new ≡ left self.old) }
+        ensures counted { OnFailed result (faults self.new ≡ one_more (faults self.old)) }
+        ensures no_fault { result ≢ Taking.Failed → faults self.new ≡ faults self.old }
         ensures never_falls { faults self.old ≤ faults self.new };
 }

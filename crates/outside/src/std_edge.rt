@@ -1,9 +1,10 @@
 // The trusted edge: sources and sinks over std's readers and writers.
-ghost use Rattle.std.specs.Prelude.{◌≡◌, ◌≢◌, ℕ, ◌<◌, ◌≤◌, None, length};
+ghost use Rattle.std.specs.Prelude.{◌≡◌, ◌≢◌, ℕ, ◌<◌, ◌≤◌, None, [], length, take};
+ghost use Rattle.std.specs.Io.KnownBytes.{Consumes, Appends, Keeps, IsAtEnd};
 ghost use Rattle.outside.specs.Faults.{one_more};
 ghost use Rattle.outside.specs.Putting.{IfTook};
 ghost use Rattle.outside.specs.Putting as putting;
-ghost use Rattle.outside.specs.Taking.{IfBytes};
+ghost use Rattle.outside.specs.Taking.{IfBytes, OnEnd};
 ghost use Rattle.outside.specs.Taking as taking;
 
 use crate::sink::{Putting, Sink};
@@ -11,8 +12,8 @@ use crate::source::{Source, Taking};
 use std::io::{Read, Write};
 use std::marker::Model;
 
-/// A source over a reader. It tells nothing of bytes, and counts each error of the reader, also
-/// that of an interrupted read. Contracts see it as that count.
+/// A source over a reader. It tells nothing of bytes as a source, and counts each error of the reader, also
+/// that of an interrupted read. Contracts see it as the reader and that count.
 #[derive(Drop)]
 pub struct StdSource<B: Read + Drop> {
     reader: B,
@@ -20,17 +21,18 @@ pub struct StdSource<B: Read + Drop> {
 }
 
 impl<B: Read + Drop> Model for StdSource<B> {
-    ghost use Rattle.std.specs.Prelude.{ℕ};
+    ghost use Rattle.outside.specs.Edges.{EdgeState};
 
-    ghost Value = { ℕ };
+    ghost Value = { EdgeState B };
 
-    ghost view = { λ s. s.faults };
+    ghost view = { λ s. record { inner = s.reader; faults = s.faults } };
 }
 
 impl<B: Read + Drop> StdSource<B> {
     /// Gives what `reader` reads.
     pub fn new(reader: B) -> Self
-        ensures { result ≡ 0 }
+        ensures inner { result.inner ≡ reader }
+        ensures faults { result.faults ≡ 0 }
     {
         StdSource { reader, faults: 0 }
     }
@@ -39,15 +41,22 @@ impl<B: Read + Drop> StdSource<B> {
 impl<B: Read + Drop> Source for StdSource<B> {
     ghost left = { λ _. None };
 
-    ghost faults = { λ s. s };
+    ghost faults = { λ s. s.faults };
 
     fn take(&mut self, into: &mut [u8]) -> Taking
         requires room { 0 < length into.old }
         ensures some { IfBytes result (λ n. 0 < n) }
         ensures within { IfBytes result (λ n. n ≤ length into.new) }
-        ensures failed { taking.OnFailed result (self.new ≡ one_more self.old) }
-        ensures no_fault { result ≢ Taking.Failed → self.new ≡ self.old }
-        ensures never_falls { self.old ≤ self.new }
+        // One read of the reader, where its contract tells its bytes.
+        ensures read { IfBytes result (λ n.
+            Consumes (B.remaining self.old.inner) (B.remaining self.new.inner) (take n into.new)) }
+        ensures at_end { OnEnd result (IsAtEnd (B.remaining self.new.inner)) }
+        ensures read_none { OnEnd result (Consumes (B.remaining self.old.inner) (B.remaining self.new.inner) []) }
+        ensures unread { taking.OnFailed result (Keeps (B.remaining self.old.inner) (B.remaining self.new.inner)) }
+
+        ensures failed { taking.OnFailed result (self.new.faults ≡ one_more self.old.faults) }
+        ensures no_fault { result ≢ Taking.Failed → self.new.faults ≡ self.old.faults }
+        ensures never_falls { self.old.faults ≤ self.new.faults }
     {
         match self.reader.read(into) {
             Ok(0) => Taking::End,
@@ -60,8 +69,8 @@ impl<B: Read + Drop> Source for StdSource<B> {
     }
 }
 
-/// A sink over a writer. It tells nothing of bytes, and counts each error of the writer and each
-/// write that took nothing. Contracts see it as that count. It flushes nothing: the writer is to
+/// A sink over a writer. It tells nothing of bytes as a sink, and counts each error of the writer and each
+/// write that took nothing. Contracts see it as the writer and that count. It flushes nothing: the writer is to
 /// keep no bytes back.
 #[derive(Drop)]
 pub struct StdSink<W: Write + Drop> {
@@ -70,17 +79,18 @@ pub struct StdSink<W: Write + Drop> {
 }
 
 impl<W: Write + Drop> Model for StdSink<W> {
-    ghost use Rattle.std.specs.Prelude.{ℕ};
+    ghost use Rattle.outside.specs.Edges.{EdgeState};
 
-    ghost Value = { ℕ };
+    ghost Value = { EdgeState W };
 
-    ghost view = { λ s. s.faults };
+    ghost view = { λ s. record { inner = s.writer; faults = s.faults } };
 }
 
 impl<W: Write + Drop> StdSink<W> {
     /// Writes to `writer`.
     pub fn new(writer: W) -> Self
-        ensures { result ≡ 0 }
+        ensures inner { result.inner ≡ writer }
+        ensures faults { result.faults ≡ 0 }
     {
         StdSink { writer, faults: 0 }
     }
@@ -89,15 +99,21 @@ impl<W: Write + Drop> StdSink<W> {
 impl<W: Write + Drop> Sink for StdSink<W> {
     ghost got = { λ _. None };
 
-    ghost faults = { λ s. s };
+    ghost faults = { λ s. s.faults };
 
     fn put(&mut self, piece: &[u8]) -> Putting
         requires { 0 < length piece.now }
         ensures some { IfTook result (λ n. 0 < n) }
         ensures within { IfTook result (λ n. n ≤ length piece.now) }
-        ensures failed { putting.OnFailed result (self.new ≡ one_more self.old) }
-        ensures no_fault { result ≢ Putting.Failed → self.new ≡ self.old }
-        ensures never_falls { self.old ≤ self.new }
+        // One write of the writer, where its contract tells its bytes.
+        ensures written { IfTook result (λ n.
+            Appends (W.contents self.old.inner) (W.contents self.new.inner) (take n piece.now)) }
+        ensures unwritten { putting.OnFailed result
+            (Appends (W.contents self.old.inner) (W.contents self.new.inner) []) }
+
+        ensures failed { putting.OnFailed result (self.new.faults ≡ one_more self.old.faults) }
+        ensures no_fault { result ≢ Putting.Failed → self.new.faults ≡ self.old.faults }
+        ensures never_falls { self.old.faults ≤ self.new.faults }
     {
         match self.writer.write(piece) {
             Ok(count) if count > 0 => Putting::Took(count),

@@ -7,10 +7,10 @@ use Rattle.set_model.specs.declared.calls.Call.{Call}
 use Rattle.workload_text.specs.Limits.{lists_of}
 
 module _ (vecs : List (Vec Call)) (i : ℕ) (calls : Vec Call) (lt : i < length vecs) (is : calls ≡ get_or vecs i calls) where
-  inside : i < length (lists_of vecs)
+  pub inside : i < length (lists_of vecs)
   inside = omega (arith, length-map vecs (λ (v : Vec Call). v.items))
 
-  here : get_or (lists_of vecs) i calls.items ≡ calls.items
+  pub here : get_or (lists_of vecs) i calls.items ≡ calls.items
   here = get_or-map (λ (v : Vec Call). v.items) vecs i calls calls.items lt ∙ ap (λ (v : Vec Call). v.items) (sym is)
 
   pub total_fits : sum_by length (take i (lists_of vecs)) + length calls.items ≤ sum_by length (lists_of vecs)

@@ -1,37 +1,54 @@
--- The text of a workload, for any number of callers.
+-- The text of a workload: its lines, and how each is spelled.
 use Rattle.std.specs.Prelude.{◌≡◌, ℕ, ◌+◌, List, [], ◌∷◌, ◌++◌, length, map, codes}
 use Rattle.set_model.specs.declared.calls.Call.{Call}
-use Rattle.set_model.specs.declared.calls.Call.TheVariants.{Insert, Remove, Search}
-use Rattle.workload_text.specs.Lines.{numbered, lines_text}
-use Rattle.workload_text.specs.Limits.{IsWorkload}
+use Rattle.text_lines.specs.Lines.{numbered, lines_text}
+use Rattle.text_lines.specs.Calls.{call_text}
+use Rattle.workload_text.specs.Limits.{Plan, IsWorkload}
 
--- a call: its letter and its key
-abbrev pub call_text : Call → List ℕ
-call_text (Insert key) = numbered (codes "i") key
-call_text (Remove key) = numbered (codes "r") key
-call_text (Search key) = numbered (codes "s") key
+-- a line of a workload
+pub data Line : Type 0 where
+  version_line : ℕ → Line
+  callers_line : ℕ → Line
+  caller_line : ℕ → Line
+  call_line : Call → Line
+  phase_line : Line
+  end_line : Line
 
--- the lines of one caller: its number, and then its calls
-abbrev pub caller_lines : ℕ → List Call → List (List ℕ)
-caller_lines caller calls = numbered (codes "caller") caller ∷ map call_text calls
+-- the bytes of a line, without its line feed
+abbrev pub spelled : Line → List ℕ
+spelled (version_line version) = numbered (codes "setbench") version
+spelled (callers_line count) = numbered (codes "callers") count
+spelled (caller_line caller) = numbered (codes "caller") caller
+spelled (call_line call) = call_text call
+spelled phase_line = codes "phase"
+spelled end_line = codes "end"
 
--- the lines of callers that are numbered from `first` on
-abbrev pub callers_lines : ℕ → List (List Call) → List (List ℕ)
+abbrev pub spelled_lines : List Line → List ℕ
+spelled_lines lines = lines_text (map spelled lines)
+
+-- phases behind the first: the line `phase`, and then the phase's calls
+abbrev pub later_lines : List (List Call) → List Line
+later_lines [] = []
+later_lines (calls ∷ phases) = phase_line ∷ (map call_line calls ++ later_lines phases)
+
+-- the calls of a caller, with a line `phase` between two phases
+abbrev pub phases_lines : List (List Call) → List Line
+phases_lines [] = []
+phases_lines (calls ∷ phases) = map call_line calls ++ later_lines phases
+
+-- the lines of callers that are numbered from `first` on: each caller's number, and then its calls
+abbrev pub callers_lines : ℕ → List (List (List Call)) → List Line
 callers_lines first [] = []
-callers_lines first (calls ∷ lists) = caller_lines first calls ++ callers_lines (first + 1) lists
+callers_lines first (phases ∷ lists) = caller_line first ∷ (phases_lines phases ++ callers_lines (first + 1) lists)
 
--- all lines: the header, the number of callers, each caller from 0 on, and the end
-abbrev pub workload_lines : List (List Call) → List (List ℕ)
-workload_lines lists = codes "setbench 1" ∷ numbered (codes "callers") (length lists) ∷ (callers_lines 0 lists ++ codes "end" ∷ [])
-
--- the lines before the calls of a lone caller
-abbrev pub header_of_one : List (List ℕ)
-header_of_one = codes "setbench 1" ∷ codes "callers 1" ∷ codes "caller 0" ∷ []
+-- all lines: the version, the number of callers, each caller from 0 on, and the end
+abbrev pub workload_lines : Plan → List Line
+workload_lines plan = version_line plan.version ∷ callers_line (length plan.lists) ∷ (callers_lines 0 plan.lists ++ end_line ∷ [])
 
 -- the one text of a workload
-abbrev pub text_of : List (List Call) → List ℕ
-text_of lists = lines_text (workload_lines lists)
+abbrev pub text_of : Plan → List ℕ
+text_of plan = spelled_lines (workload_lines plan)
 
--- the bytes are the text of a workload, and it has one caller
-abbrev pub IsTextOfOneCaller : List ℕ → List (List Call) → Type 0
-IsTextOfOneCaller bytes lists = (length lists ≡ 1) × IsWorkload lists × (bytes ≡ text_of lists)
+-- the bytes are the text of this workload
+abbrev pub IsTextOf : List ℕ → Plan → Type 0
+IsTextOf bytes plan = IsWorkload plan × (bytes ≡ text_of plan)

@@ -1,5 +1,5 @@
 use Rattle.std.proofs.Common.{take}
-use Rattle.workload_text.specs.Lines.{HasNoFeed}
+use Rattle.text_lines.specs.Lines.{HasNoFeed}
 use Rattle.workload_text.proofs.lines.split_line.Given as goal
 
 abbrev pub invariant-loop-i : goal.invariant-loop-i

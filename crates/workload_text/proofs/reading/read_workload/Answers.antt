@@ -1,25 +1,24 @@
-use Rattle.std.proofs.Common.{◌≡◌, List, ◌∷◌, ◌++◌, [], ap, inl, inr, Ok, Err, sym, ◌∙◌}
-use Rattle.std.specs.Global.{Vec}
-use Rattle.set_model.specs.declared.calls.Call.{Call}
-use Rattle.std.proofs.lemmas.Result.{err_from_is_err_and}
-use Rattle.workload_text.specs.declared.error.WorkloadError.TheVariants.{Refused}
-use Rattle.workload_text.specs.Limits.{lists_of}
-use Rattle.workload_text.proofs.OneCaller.{no_one, only_memory}
-use Rattle.workload_text.proofs.SameText.{same_workload}
+use Rattle.std.proofs.Common.{◌≡◌, ℕ, ◌⊎◌, List, Result, Ok, Err, IfOk, IfErr, inl, inr, sym, ap, ◌∙◌}
+use Rattle.workload_text.specs.declared.error.WorkloadError.{WorkloadError}
+use Rattle.workload_text.specs.declared.error.WorkloadError.TheVariants.{OutOfMemory}
+use Rattle.workload_text.specs.Limits.{Plan}
+use Rattle.workload_text.specs.Text.{IsTextOf}
+use Rattle.workload_text.specs.Refusals.{IsRefused}
+use Rattle.workload_text.proofs.Laws.{one_workload, text_or_refusal, one_cause}
 use Rattle.workload_text.proofs.reading.read_workload.Goals as goal
 
-pub returns-in_err-calls-clause-refused : goal.returns-in_err-calls-clause-refused
-returns-in_err-calls-clause-refused c =
-    let p = err_from_is_err_and c.from_residual.result c.from_residual.ensures.1 in
-    rw (p.1, p.2) (λ err lists h. no_one c.args.bytes.now lists (c.in_err-calls.ensures.refused (let same : c.in_err-calls.field-0.0 ≡ Refused = cc in ap Err same)) h)
+text_found : (bytes : List ℕ) (r : Result Plan WorkloadError) (plan : Plan) → IfOk r (λ w. IsTextOf bytes w) → IfErr r (λ e. (e ≡ OutOfMemory) ⊎ IsRefused bytes e) → IsTextOf bytes plan → (r ≡ Ok plan) ⊎ (r ≡ Err OutOfMemory)
+text_found bytes (Ok w) plan found refused h = inl (ap Ok (one_workload w plan found.0 h.0 (sym found.1 ∙ h.1)))
+text_found bytes (Err e) plan found (inl memory) h = inr (ap Err memory)
+text_found bytes (Err e) plan found (inr refused) h = absurd (text_or_refusal bytes plan e h refused)
 
-pub returns-in_err-calls-clause-only : goal.returns-in_err-calls-clause-only
-returns-in_err-calls-clause-only c = λ lists h.
-    let p = err_from_is_err_and c.from_residual.result c.from_residual.ensures.1 in
-    inr (p.1 ∙ ap Err (p.2 ∙ only_memory c.in_err-calls.field-0.0 c.args.bytes.now lists c.in_err-calls.ensures.refused h))
+cause_told : (bytes : List ℕ) (r : Result Plan WorkloadError) (e : WorkloadError) → IfOk r (λ w. IsTextOf bytes w) → IfErr r (λ f. (f ≡ OutOfMemory) ⊎ IsRefused bytes f) → IsRefused bytes e → (r ≡ Err e) ⊎ (r ≡ Err OutOfMemory)
+cause_told bytes (Ok w) e found refused h = absurd (text_or_refusal bytes w e found h)
+cause_told bytes (Err f) e found (inl memory) h = inr (ap Err memory)
+cause_told bytes (Err f) e found (inr refused) h = inl (ap Err (one_cause bytes f e refused h))
 
-pub returns-clause-only : goal.returns-clause-only
-returns-clause-only c = λ lists h.
-    let found = c.in_ok-calls.ensures.found in
-    let made : c.of.result ≡ c.in_ok-calls.calls.items ∷ [] = c.of.ensures.lists ∙ ap lists_of (c.in_ok-push.ensures.items ∙ ap (λ (xs : List (Vec Call)). xs ++ c.in_ok-calls.calls ∷ []) c.new-lists.ensures.items) in
-    inl (ap Ok (made ∙ same_workload (c.in_ok-calls.calls.items ∷ []) lists found.0 h.1 (sym found.1 ∙ h.2)))
+pub returns-clause-text : goal.returns-clause-text
+returns-clause-text c = λ plan h. text_found c.args.bytes.now c.read_all.result plan c.read_all.ensures.found c.read_all.ensures.refused h
+
+pub returns-clause-cause : goal.returns-clause-cause
+returns-clause-cause c = λ e h. cause_told c.args.bytes.now c.read_all.result e c.read_all.ensures.found c.read_all.ensures.refused h

@@ -1,5 +1,5 @@
-use Rattle.workload_text.proofs.SameText.{same_workload}
+use Rattle.workload_text.proofs.Laws.{one_workload}
 use Rattle.workload_text.proofs.reading.text_tells_workload.Goals as goal
 
 pub returns : goal.returns
-returns c = same_workload
+returns c = one_workload

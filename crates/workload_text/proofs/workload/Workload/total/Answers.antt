@@ -1,22 +1,17 @@
-use Rattle.std.proofs.Common.{arith, ap, sum_by, length, List}
+use Rattle.std.proofs.Common.{ap, sym, ◌∙◌, List, sum_by, length, arith}
 use Rattle.std.specs.Global.{Vec}
 use Rattle.set_model.specs.declared.calls.Call.{Call}
-use Rattle.workload_text.specs.Limits.{lists_of}
-use Rattle.workload_text.proofs.TotalLemmas.{total_fits, total_more}
+use Rattle.workload_text.specs.Limits.{Plan, lists_of, total_of}
+use Rattle.workload_text.proofs.Held.{total_held}
 use Rattle.workload_text.proofs.workload.Workload.total.Goals as goal
 
-pub overflow_cast-total : goal.overflow_cast-total
-overflow_cast-total c =
-    let fits = total_fits c.deref-calls-items.result.now c.loop-calls.calls-index c.calls-item.result c.loop-calls-test.true c.calls-item.is in
-    let whole = ap (λ (vecs : List (Vec Call)). sum_by length (lists_of vecs)) c.deref-calls-items.ensures.value in
-    omega (arith, fits, whole, c.self.invariant.few_calls, c.len.ensures, c.calls-item.result.ok.0)
+pub total_of_all-requires : goal.total_of_all-requires
+total_of_all-requires c =
+    let same = total_held c.self.inside.lists.items c.self.inside.cuts c.self.invariant in
+    let whole = ap (λ (vecs : List (Vec Call)). sum_by length (lists_of vecs)) c.deref.ensures.value in
+    omega (arith, same, whole, c.self.invariant.workload.few_calls)
 
-pub overflow_add-total : goal.overflow_add-total
-overflow_add-total c =
-    let fits = total_fits c.deref-calls-items.result.now c.loop-calls.calls-index c.calls-item.result c.loop-calls-test.true c.calls-item.is in
-    let whole = ap (λ (vecs : List (Vec Call)). sum_by length (lists_of vecs)) c.deref-calls-items.ensures.value in
-    omega (arith, fits, whole, c.self.invariant.few_calls, c.len.ensures, c.calls-item.result.ok.0, c.loop-calls.invariant)
-
-pub loop-calls-preserved : goal.loop-calls-preserved
-loop-calls-preserved c =
-    omega (arith, total_more c.deref-calls-items.result.now c.loop-calls.calls-index c.calls-item.result c.loop-calls-test.true c.calls-item.is, c.len.ensures, c.calls-item.result.ok.0, c.loop-calls.invariant)
+pub returns-clause-sum : goal.returns-clause-sum
+returns-clause-sum c =
+    let same = total_held c.self.inside.lists.items c.self.inside.cuts c.self.invariant in
+    c.total_of_all.ensures ∙ ap (λ (vecs : List (Vec Call)). sum_by length (lists_of vecs)) c.deref.ensures.value ∙ sym same ∙ ap (λ (plan : Plan). total_of plan.lists) c.self.view_is

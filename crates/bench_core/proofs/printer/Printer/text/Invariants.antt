@@ -1,9 +1,0 @@
-use Rattle.std.proofs.Common.{length}
-use Rattle.bench_core.proofs.AddsLemmas.{AddsUpTo}
-use Rattle.bench_core.proofs.printer.Printer.text.Given as goal
-
-abbrev pub invariant-loop-rest : goal.invariant-loop-rest
-invariant-loop-rest g l = AddsUpTo g.K.Sink.got g.K.Sink.faults l.fn.self l.self l.text l.rest
-
-abbrev pub decreases-loop-rest : goal.decreases-loop-rest
-decreases-loop-rest g l = length l.rest

@@ -1,6 +1,0 @@
-use Rattle.std.proofs.Common.{◌≡◌, ◌*◌, ◌^◌, ◌≤◌, take}
-use Rattle.bench_core.specs.ReportText.{calls_in}
-use Rattle.bench_core.proofs.report_printing.calls_in.Given as goal
-
-abbrev pub invariant-loop-played : goal.invariant-loop-played
-invariant-loop-played l = (l.total ≡ calls_in (take l.played-index l.callers)) × (l.total ≤ 2 ^ 64 * l.played-index)

@@ -1,0 +1,92 @@
+-- What the clauses of the whole program say of words, of what was read, and of statuses.
+use Rattle.std.specs.Prelude.{◌≡◌, ◌≢◌, ℕ, ◌⊎◌, List, [], Option, Some, None}
+use Rattle.command_words.specs.Commands.{IsCommand}
+use Rattle.command_words.specs.declared.command.Command.{Command}
+use Rattle.command_words.specs.declared.command.Command.TheVariants as command
+use Rattle.command_words.specs.declared.command.PlayWords.{PlayWords}
+use Rattle.command_words.specs.declared.command.TrialWords.{TrialWords}
+use Rattle.command_words.specs.declared.command.Workloads.{Workloads}
+use Rattle.lawful_pairs.specs.declared.Unlawful.{Unlawful}
+use Rattle.report_text.specs.LineTexts.{checked_text, refusal_text}
+use Rattle.report_text.specs.ReportText.{report_text}
+use Rattle.report_text.specs.SummaryText.{summary_text}
+use Rattle.report_text.specs.Writing.{Wrote, WrotePart}
+use Rattle.report_text.specs.declared.refusal.Refusal.{Refusal}
+use Rattle.report_text.specs.declared.refusal.Refusal.TheVariants as refusal
+use Rattle.report_text.specs.declared.refusal.WorkloadRefusal.{WorkloadRefusal}
+use Rattle.workload_text.specs.Limits.{Plan}
+use Rattle.workload_text.specs.Text.{IsTextOf, text_of}
+use Rattle.bench_core.specs.declared.ending.Ended.{Ended}
+use Rattle.bench_core.specs.declared.ending.Run.{Run}
+use Rattle.bench_core.specs.Ending.{GaveNoWorkload, GaveWorkload, IsAllowed, IsMade, IsRun, NamesUnlawful, Reads, has_full}
+use Rattle.bench_core.specs.Sizes.{sizes_of}
+
+-- the words name a command that reads a workload
+abbrev pub AreRead : List (List ℕ) → Type 0
+AreRead words = (chosen : Command) × IsCommand words chosen × Reads chosen
+
+-- the words name a command that reads nothing, be it since its pair isn't lawful
+abbrev pub AreNotRead : List (List ℕ) → Type 0
+AreNotRead words = (chosen : Command) × IsCommand words chosen × ¬ (Reads chosen)
+
+-- the words name a command, and no pair that isn't lawful
+abbrev pub AreAllowed : List (List ℕ) → Type 0
+AreAllowed words = (chosen : Command) × IsCommand words chosen × IsAllowed chosen
+
+-- the words name a command with a pair that isn't lawful
+abbrev pub AreUnlawful : List (List ℕ) → Type 0
+AreUnlawful words = (chosen : Command) × IsCommand words chosen × (pair : Unlawful) × NamesUnlawful chosen pair
+
+-- the words name this pair, and it isn't lawful
+abbrev pub NamesPair : List (List ℕ) → Unlawful → Type 0
+NamesPair words pair = (chosen : Command) × IsCommand words chosen × NamesUnlawful chosen pair
+
+-- the words are those of `play`, or of `trial`
+abbrev pub ArePlayed : List (List ℕ) → Type 0
+ArePlayed words = ((chosen : PlayWords) × IsCommand words (command.Play chosen)) ⊎ ((chosen : TrialWords) × IsCommand words (command.Trial chosen))
+
+-- the bytes were read to the end, and are a workload
+abbrev pub GaveSomeWorkload : {S : Type 0} → (S → Option (List ℕ)) → S → S → Type 0
+GaveSomeWorkload left before after = (plan : Plan) × GaveWorkload left before after plan
+
+-- the source holds the text of a workload, and nothing else
+abbrev pub HoldsWorkload : {S : Type 0} → (S → Option (List ℕ)) → S → Type 0
+HoldsWorkload left source = (bytes : List ℕ) × (left source ≡ Some bytes) × (plan : Plan) × IsTextOf bytes plan
+
+-- the bytes were read to the end, and are no workload
+abbrev pub GaveRefused : {S : Type 0} → (S → Option (List ℕ)) → S → S → Type 0
+GaveRefused left before after = (cause : WorkloadRefusal) × GaveNoWorkload left before after cause
+
+-- all was done
+abbrev pub IsDone : ℕ → Type 0
+IsDone status = (status ≡ 0) ⊎ (status ≡ 5)
+
+-- nothing is written with this status
+abbrev pub IsQuiet : ℕ → Type 0
+IsQuiet status = (status ≡ 6) ⊎ (status ≡ 8)
+
+-- a fault or want of memory stopped the run
+abbrev pub IsStopped : ℕ → Type 0
+IsStopped status = IsQuiet status ⊎ (status ≡ 7)
+
+-- What was played and what its text is: of `play` the workload that was read and the report, of `trial` the workload
+-- that was made and the summary.
+pub record IsPlayOf {S : Type 0} (left : S → Option (List ℕ)) (before after : S) (words : List (List ℕ)) (run : Run) (text : List ℕ) : Type 0 where
+  pub chosen : PlayWords
+  pub named : IsCommand words (command.Play chosen)
+  pub plan : Plan
+  pub gave : GaveWorkload left before after plan
+  pub played : IsRun chosen.set chosen.reclaimer plan run
+  pub report : text ≡ report_text run.report
+
+pub record IsTrialOf {S : Type 0} (before after : S) (words : List (List ℕ)) (run : Run) (text : List ℕ) : Type 0 where
+  pub chosen : TrialWords
+  pub named : IsCommand words (command.Trial chosen)
+  pub same : after ≡ before
+  pub plan : Plan
+  pub made : IsMade chosen.workload plan
+  pub played : IsRun chosen.set chosen.reclaimer plan run
+  pub summary : text ≡ summary_text run.report
+
+abbrev pub IsRunOf : {S : Type 0} → (S → Option (List ℕ)) → S → S → List (List ℕ) → Run → List ℕ → Type 0
+IsRunOf left before after words run text = IsPlayOf left before after words run text ⊎ IsTrialOf before after words run text

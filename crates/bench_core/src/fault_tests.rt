@@ -1,0 +1,128 @@
+// The program at its faults, in pieces, and on more bytes than a workload has.
+ghost use Rattle.std.specs.Prelude.{None};
+
+use super::*;
+use crate::tests::{COMMAND, REPORT, WORKLOAD, makes, run_on, words_of};
+use outside::{FreeGate, MemorySink, Source, Taking};
+use std::test::Fail;
+
+const LENGTH_LINE: &str = "setbench: workload too long\n";
+
+// A workload of 5,937 bytes is two pieces of 4,096 bytes, of which the last is shorter.
+#[test]
+fn reads_and_prints_in_pieces(rt: HostRuntime) -> Result<(), Fail> {
+    let alloc = rt.alloc();
+    let words = makes(alloc, false, ["1", "1000", "1000", "7"])?;
+    let whole = run_on(&rt, alloc, &words, b"", &[], 100_000, &[])?;
+    assert_eq!(rt; whole.got.len(), 5_937);
+    let rows = [(1, 7, 0), (2, 7, 4096), (3, 0, 5_937)];
+    for (fails, status, length) in rows {
+        let end = run_on(&rt, alloc, &words, b"", &[], 100_000, &[fails])?;
+        assert_eq!(rt; end.status, status, "at {fails}");
+        assert_eq!(rt; end.got.len(), length, "at {fails}");
+    }
+    // The last call finds the end.
+    let rows = [(1, 6), (2, 6), (3, 6), (4, 0)];
+    for (fails, status) in rows {
+        let end = run_on(&rt, alloc, &["check"], &whole.got, &[fails], 4096, &[])?;
+        assert_eq!(rt; end.status, status, "at {fails}");
+    }
+    Ok(())
+}
+
+#[test]
+fn each_put_that_fails_ends_the_run(rt: HostRuntime) -> Result<(), Fail> {
+    let report = REPORT.as_bytes();
+    let mut fails = 1;
+    while (fails as usize - 1) * 10 < report.len() && fails < 100 {
+        let end = run_on(
+            &rt,
+            rt.alloc(),
+            &COMMAND,
+            WORKLOAD.as_bytes(),
+            &[],
+            10,
+            &[fails],
+        )?;
+        assert_eq!(rt; end.status, 7, "at {fails}");
+        assert_eq!(rt; end.got.len(), (fails as usize - 1) * 10, "at {fails}");
+        assert!(rt; report.starts_with(&end.got), "at {fails}");
+        fails += 1;
+    }
+    let end = run_on(
+        &rt,
+        rt.alloc(),
+        &COMMAND,
+        WORKLOAD.as_bytes(),
+        &[],
+        10,
+        &[fails],
+    )?;
+    assert_eq!(rt; end.status, 0);
+    Ok(())
+}
+
+#[test]
+fn ends_at_the_first_fault(rt: HostRuntime) -> Result<(), Fail> {
+    let bytes = WORKLOAD.as_bytes();
+    for fails in 1..3 {
+        let end = run_on(&rt, rt.alloc(), &COMMAND, bytes, &[fails], 4096, &[])?;
+        assert_eq!(rt; end.status, 6, "at {fails}");
+        assert_eq!(rt; end.got.as_slice(), b"".as_slice(), "at {fails}");
+        assert!(rt; !end.has_run, "at {fails}");
+    }
+    let end = run_on(&rt, rt.alloc(), &COMMAND, bytes, &[], 10, &[3])?;
+    assert_eq!(rt; end.status, 7);
+    assert_eq!(rt; end.got.as_slice(), b"set plain reclaimer ".as_slice());
+    assert!(rt; end.has_run);
+    let end = run_on(&rt, rt.alloc(), &COMMAND, b"setbench 2\n", &[], 10, &[2])?;
+    assert_eq!(rt; end.status, 7);
+    assert_eq!(rt; end.got.as_slice(), b"setbench: ".as_slice());
+    assert!(rt; !end.has_run);
+    Ok(())
+}
+
+/// Gives this many bytes, in pieces that begin with a line feed. It tells nothing of them.
+#[derive(Drop)]
+struct ManyBytes {
+    left: usize,
+}
+
+impl Source for ManyBytes {
+    ghost left = { λ _. None };
+
+    ghost faults = { λ _. 0 };
+
+    fn take(&mut self, into: &mut [u8]) -> Taking {
+        let count = into.len().min(self.left);
+        if count == 0 {
+            return Taking::End;
+        }
+        into[0] = b'\n';
+        self.left -= count;
+        Taking::Bytes(count)
+    }
+}
+
+#[test]
+fn refuses_a_workload_that_is_too_long(rt: HostRuntime) -> Result<(), Fail> {
+    let alloc = rt.alloc();
+    let rows = [
+        (
+            67_108_864,
+            3,
+            "setbench: workload refused: line 1: header\n",
+        ),
+        (67_108_865, 9, LENGTH_LINE),
+    ];
+    for (left, status, line) in rows {
+        let words = words_of(alloc, &["check"])?;
+        let room = Vec::with_capacity(alloc, 100)?;
+        let mut sink = MemorySink::new(room, 100, Vec::new(alloc));
+        let mut source = ManyBytes { left };
+        let ended = setbench(&rt, alloc, &words, &mut source, &mut sink, &FreeGate);
+        assert_eq!(rt; ended.status, status, "at {left}");
+        assert_eq!(rt; sink.got(), line.as_bytes(), "at {left}");
+    }
+    Ok(())
+}

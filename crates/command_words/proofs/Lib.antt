@@ -1,0 +1,5 @@
+pub mod Chosen
+pub mod Commands
+pub mod Numbers
+pub mod Pairs
+pub mod Records

@@ -1,0 +1,7 @@
+use Rattle.std.proofs.Common.{codes}
+use Rattle.command_words.specs.Words.{set_word, texts_of}
+use Rattle.command_words.proofs.Pairs.{Gives-read}
+use Rattle.command_words.proofs.values.set_of.Goals as goal
+
+pub returns-in-Some : goal.returns-in-Some
+returns-in-Some c = Gives-read (texts_of c.args.words.now) (codes "--set") set_word c.requires c.in-Some.word.now c.in-Some.ensures c.set_named.result c.set_named.ensures

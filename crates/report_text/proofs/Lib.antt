@@ -1,0 +1,4 @@
+pub mod AddsLemmas
+pub mod PrintedCases
+pub mod ReportLines
+pub mod WritingLemmas

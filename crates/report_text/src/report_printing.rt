@@ -1,0 +1,165 @@
+// Printing a report, line by line.
+ghost use Rattle.std.specs.Prelude.{◌≡◌, ◌++◌, ◌∷◌, length, decimal};
+ghost use Rattle.text_lines.specs.Lines.{line, numbered, lines_text};
+ghost use Rattle.text_lines.specs.Calls.{call_text};
+ghost use Rattle.report_text.specs.Printing.{Adds};
+ghost use Rattle.report_text.specs.ReportText.{calls_in, reply_text, answered_text, answered_lines, set_text, reclaimer_text, size_text, records_text, played_lines, callers_lines, head_text, report_text};
+
+use crate::printer::Printer;
+use crate::report::{Played, Report};
+use outside::Sink;
+use set_model::{Call, Counts, ReclaimerName, Reply, SetName};
+
+/// The name of a set, as words and texts spell it.
+pub fn set_word(set: SetName) -> &'static [u8]
+    ensures { result.now ≡ set_text set }
+{
+    match set {
+        SetName::Plain => b"plain",
+        SetName::Michael => b"michael",
+        SetName::Lazy => b"lazy",
+    }
+}
+
+/// The name of a reclaimer, as words and texts spell it.
+pub fn reclaimer_word(reclaimer: ReclaimerName) -> &'static [u8]
+    ensures { result.now ≡ reclaimer_text reclaimer }
+{
+    match reclaimer {
+        ReclaimerName::Nothing => b"none",
+        ReclaimerName::Debra => b"debra",
+        ReclaimerName::Hazard => b"hazard",
+        ReclaimerName::Ibr => b"2geibr",
+    }
+}
+
+// What stands behind a call, up to the end of the line, in one piece.
+fn reply_end(reply: Reply) -> &'static [u8]
+    ensures { result.now ≡ 32 ∷ line (reply_text reply) }
+{
+    match reply {
+        Reply::Yes => b" yes\n",
+        Reply::No => b" no\n",
+        Reply::Full => b" full\n",
+    }
+}
+
+impl<'a, K: Sink> Printer<'a, K> {
+    /// Prints a word and a number.
+    pub fn numbered(&mut self, word: &[u8], number: u64)
+        ensures { Adds K.got K.faults self.old self.new (numbered word.now number) }
+    {
+        self.text(word);
+        self.text(b" ");
+        self.number(number);
+    }
+
+    fn call(&mut self, call: Call)
+        ensures { Adds K.got K.faults self.old self.new (call_text call) }
+    {
+        match call {
+            Call::Insert(key) => self.keyed(b"i ", key),
+            Call::Remove(key) => self.keyed(b"r ", key),
+            Call::Search(key) => self.keyed(b"s ", key),
+        }
+    }
+
+    fn keyed(&mut self, letter: &[u8], key: u64)
+        ensures { Adds K.got K.faults self.old self.new (letter.now ++ decimal key) }
+    {
+        self.text(letter);
+        self.number(key);
+    }
+
+    fn answered(&mut self, call: Call, reply: Reply)
+        ensures { Adds K.got K.faults self.old self.new (line (answered_text call reply)) }
+    {
+        self.call(call);
+        self.text(reply_end(reply));
+    }
+
+    fn answers(&mut self, calls: &[Call], replies: &[Reply])
+        requires { length calls.now ≡ length replies.now }
+        ensures { Adds K.got K.faults self.old self.new (lines_text (answered_lines calls.now replies.now)) }
+    {
+        for (i, call) in calls.iter().enumerate() {
+            self.answered(*call, replies[i]);
+        }
+    }
+
+    fn played(&mut self, caller: u64, played: &Played)
+        ensures { Adds K.got K.faults self.old self.new (lines_text (played_lines caller played.now)) }
+    {
+        self.numbered(b"caller", caller);
+        self.text(b"\n");
+        self.answers(played.calls.as_slice(), played.replies.as_slice());
+    }
+
+    fn callers(&mut self, callers: &[Played])
+        ensures { Adds K.got K.faults self.old self.new (lines_text (callers_lines 0 callers.now)) }
+    {
+        for (i, played) in callers.iter().enumerate() {
+            self.played(i as u64, played);
+        }
+    }
+
+    /// Prints the line of the number of keys and their sum.
+    pub fn size(&mut self, report: &Report)
+        ensures { Adds K.got K.faults self.old self.new (line (size_text report.now)) }
+    {
+        self.numbered(b"size", report.size);
+        self.text(b" ");
+        self.numbered(b"sum", report.sum);
+        self.text(b"\n");
+    }
+
+    fn head(&mut self, report: &Report)
+        ensures { Adds K.got K.faults self.old self.new (line (head_text report.now)) }
+    {
+        let callers = report.callers.as_slice();
+        self.text(b"set ");
+        self.text(set_word(report.set));
+        self.text(b" reclaimer ");
+        self.text(reclaimer_word(report.reclaimer));
+        self.text(b" ");
+        self.numbered(b"callers", callers.len() as u64);
+        self.text(b" calls ");
+        self.wide_number(calls_in(callers));
+        self.text(b"\n");
+    }
+
+    fn records(&mut self, counts: Counts)
+        ensures { Adds K.got K.faults self.old self.new (line (records_text counts)) }
+    {
+        self.numbered(b"records drawn", counts.drawn);
+        self.numbered(b" reused", counts.reused);
+        self.numbered(b" retired", counts.retired);
+        self.numbered(b" freed", counts.freed);
+        self.numbered(b" limbo", counts.limbo);
+        self.numbered(b" free", counts.free);
+        self.numbered(b" spare", counts.spare);
+        self.numbered(b" spent", counts.spent);
+        self.text(b"\n");
+    }
+
+    /// Prints the text of a report.
+    pub fn report(&mut self, report: &Report)
+        ensures { Adds K.got K.faults self.old self.new (report_text report.now) }
+    {
+        self.head(report);
+        self.callers(report.callers.as_slice());
+        self.size(report);
+        self.records(report.counts);
+    }
+}
+
+/// How many calls the callers played, all together.
+pub fn calls_in(callers: &[Played]) -> u128
+    ensures { result ≡ calls_in callers.now }
+{
+    let mut total = 0;
+    for played in callers {
+        total += played.calls.as_slice().len() as u128;
+    }
+    total
+}

@@ -1,0 +1,4 @@
+pub mod LineLemmas
+pub mod DigitLemmas
+pub mod NumberLemmas
+pub mod FeedLemmas

@@ -1,0 +1,11 @@
+use Rattle.std.proofs.Common.{◌≡◌, ◌≤◌, ◌+◌, ◌*◌, take}
+use Rattle.std.specs.Str.Parse.{AllDigits, digits_value}
+use Rattle.text_lines.proofs.numbers.read_number.Given as goal
+
+abbrev pub invariant-loop-byte : goal.invariant-loop-byte
+invariant-loop-byte l = record {
+  digits : AllDigits 10 (take l.byte-index l.bytes);
+  below : l.value ≤ digits_value 10 (take l.byte-index l.bytes);
+  bound : l.value ≤ 10 * l.limit + 9;
+  exact : l.value ≤ l.limit → l.value ≡ digits_value 10 (take l.byte-index l.bytes);
+}
