@@ -10,10 +10,10 @@ ghost use Rattle.set_model.specs.declared.names.AllocatorName.{AllocatorName};
 ghost use Rattle.record_memory.specs.declared.books.View.{View};
 ghost use Rattle.row_words.specs.Refs.{RefParts};
 ghost use Rattle.std.specs.Prelude.{ℕ};
-ghost use Rattle.record_table.specs.Handles.{key_of, view, IsPassOf, IsSamePass};
-ghost use Rattle.alloc_api.specs.Drawn.{IsNew};
+ghost use Rattle.record_table.specs.Handles.{setup_of, view, IsPassOf, IsSamePass};
+ghost use Rattle.alloc_api.specs.Drawn.{IsNew, GetsOne, GetsNone};
 
-use record_table::{Pass, Scheme, Shape, Table};
+use record_table::{Cover, Pass, Shape, Table};
 use row_words::Ref;
 use set_model::AllocatorName;
 
@@ -37,13 +37,11 @@ pub trait Allocator {
     ghost refuses: { View → ℕ → View → Type 0 };
 
     /// Draws a record that was never handed out, with its first generation.
-    fn draw<S: Shape, R: Scheme>(
-        table: &Table<S, R>,
-        pass: &mut Pass<S, R>,
-    ) -> Result<Ref, NoRecord>
+    fn draw<S: Shape, R: Cover>(table: &Table<S, R>, pass: &mut Pass<S, R>) -> Result<Ref, NoRecord>
         requires pass { IsPassOf table.now pass.old }
-        requires allocator { (key_of table.now).allocator ≡ NAME }
+        requires allocator { (setup_of table.now).allocator ≡ NAME }
         ensures pass { IsSamePass pass.old pass.new }
         ensures new { MatchResult result (λ r. IsNew (view pass.old) (view pass.new) r) (λ _. Unit {0}) }
+        ensures rest { MatchResult result (λ r. GetsOne (view pass.old) (view pass.new) r) (λ _. GetsNone (view pass.old) (view pass.new)) }
         ensures steps { MatchResult result (λ r. draws (view pass.old) r (view pass.new)) (λ none. refuses (view pass.old) none.found (view pass.new)) };
 }

@@ -5,17 +5,15 @@
 #![tactic(auto)]
 
 ghost use Rattle.std.specs.Prelude.{◌≡◌, ◌+◌, ◌<◌, ◌≤◌, MatchResult};
-ghost use Rattle.record_table.specs.Handles.{key_of, view, IsPassOf, IsSamePass};
-ghost use Rattle.alloc_api.specs.Drawn.{IsNew};
+ghost use Rattle.record_table.specs.Handles.{setup_of, view, IsPassOf, IsSamePass};
+ghost use Rattle.alloc_api.specs.Drawn.{IsNew, GetsOne, GetsNone};
 ghost use Rattle.alloc_bump.specs.Bumps.{Draws, Refuses};
 
 use alloc_api::{Allocator, NoRecord};
-use record_table::{Pass, Scheme, Shape, Table};
+use record_memory::DRAWN;
+use record_table::{Cover, Pass, Shape, Table};
 use row_words::Ref;
 use set_model::AllocatorName;
-
-// The control word that counts the records drawn.
-const DRAWN: u32 = 0;
 
 /// Draws the records in order. It makes at most two steps: it loads the word that counts the records
 /// drawn, and where a record is left it adds 1 to it. `NoRecord` comes exactly where one of these steps
@@ -33,7 +31,7 @@ impl Allocator for Bump {
 
     ghost refuses = { Refuses };
 
-    fn draw<S: Shape, R: Scheme>(
+    fn draw<S: Shape, R: Cover>(
         table: &Table<S, R>,
         pass: &mut Pass<S, R>,
     ) -> Result<Ref, NoRecord> {

@@ -21,6 +21,8 @@ pub fn push<W: ChainWords>(words: &mut W, chain: &mut Chain, r: Ref)
     ensures chains { (other : Chain) → IsChain (W.owns words.old) (W.row_of words.old) other
         → IsApart r (refs_of (W.row_of words.old) other)
         → IsKept (W.owns words.new) (W.row_of words.old) (W.row_of words.new) other }
+    // It makes one store and no other step.
+    ensures made { W.stores words.old r chain.old.head words.new }
     ensures same { W.same words.old words.new }
 {
     // A reference is in range, so a chain of records that differ has room for one more.
@@ -46,6 +48,8 @@ pub fn pop<W: ChainWords>(words: &mut W, chain: &mut Chain) -> Option<Ref>
     // Every chain stays the same list.
     ensures chains { (other : Chain) → IsChain (W.owns words.old) (W.row_of words.old) other
         → IsKept (W.owns words.new) (W.row_of words.old) (W.row_of words.new) other }
+    // It makes one load, or no step where the chain is empty.
+    ensures made { MatchOption result (words.new ≡ words.old) (λ r. W.loads words.old r words.new) }
     ensures same { W.same words.old words.new }
 {
     let first = chain.head?;

@@ -27,6 +27,10 @@ impl ChainWords for MemoryRows {
 
     ghost same = { λ v w. vec_len v.rows ≡ vec_len w.rows };
 
+    ghost loads = { λ v r w. w ≡ v };
+
+    ghost stores = { λ v r next w. vec_len v.rows ≡ vec_len w.rows };
+
     fn load_chain(&mut self, r: Ref) -> Option<Ref> {
         self.rows[r.index as usize].next
     }

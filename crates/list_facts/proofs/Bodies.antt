@@ -10,16 +10,16 @@ use Rattle.record_rule.specs.Laws.{marked_after}
 use Rattle.list_facts.specs.Steps.{list_settled}
 
 -- the link that was set is read back
-pub link_with_link : (body : List ℕ) (f era : ℕ) (l : LinkParts) → f ≡ 3 → length body ≡ 5 → IsLink l → link_at (with_link body f era l) 3 ≡ l
-link_with_link body f era l field long in_range = rw field (ap link_in (get_or-set_same body 0 (packed_link era l) 0 (omega arith)) ∙ link_in-packed_link era l in_range)
+pub link_with_link : (body : List ℕ) (f generation : ℕ) (l : LinkParts) → f ≡ 3 → length body ≡ 5 → IsLink l → link_at (with_link body f generation l) 3 ≡ l
+link_with_link body f generation l field long in_range = rw field (ap link_in (get_or-set_same body 0 (packed_link generation l) 0 (omega arith)) ∙ link_in-packed_link generation l in_range)
 
 -- the word of the key is another one
-pub key_word_with_link : (body : List ℕ) (f era : ℕ) (l : LinkParts) → f ≡ 3 → word_in (with_link body f era l) 4 ≡ word_in body 4
-key_word_with_link body f era l field = rw field (get_or-set_other body 0 1 (packed_link era l) 0 (suc-ne-zero 0))
+pub key_word_with_link : (body : List ℕ) (f generation : ℕ) (l : LinkParts) → f ≡ 3 → word_in (with_link body f generation l) 4 ≡ word_in body 4
+key_word_with_link body f generation l field = rw field (get_or-set_other body 0 1 (packed_link generation l) 0 (suc-ne-zero 0))
 
 -- so the key stays
-pub key_with_link : (body : List ℕ) (f era : ℕ) (l : LinkParts) → f ≡ 3 → key_at (with_link body f era l) ≡ key_at body
-key_with_link body f era l field = ap key_in (key_word_with_link body f era l field)
+pub key_with_link : (body : List ℕ) (f generation : ℕ) (l : LinkParts) → f ≡ 3 → key_at (with_link body f generation l) ≡ key_at body
+key_with_link body f generation l field = ap key_in (key_word_with_link body f generation l field)
 
 -- the number from which a reference was read is the one that it packs to
 ref_again : (n : ℕ) → packed_ref (ref_in n) ≡ n

@@ -21,7 +21,7 @@ pub record Inserts (S S' : ℕ → Spot → Type 0) (p : ℕ) (a a' o : Spot) (o
   pub base : Turned S S' p a a'
   pub turn : target_of a' ≡ Some own
   pub named : 0 < own.index
-  pub era : o.era ≡ own.generation
+  pub generation : o.generation ≡ own.generation
   pub home : o.home ≡ a.home
   pub above : a.rank < o.rank
   pub link : target_of o ≡ target_of a
@@ -55,11 +55,11 @@ module _ {S S' : ℕ → Spot → Type 0} {p : ℕ} {a a' o : Spot} {own : RefPa
   next_after : (i : ℕ) (b : Spot) (t : RefParts) → target_of b ≡ Some t → Came S p (own.index - 1) a' o i b → Leads S' b t
   next_after i b t e (turned at f) = let (s, like) = stood_here m.base i b at f in let above = m.above in
       let is : Some own ≡ Some t = sym m.turn ∙ sym (ap target_of f) ∙ e in
-      subst (λ (r : RefParts). Leads S' b r) (let z : own ≡ t = cc in z) (o, m.named, m.comes, m.era, m.home ∙ sym like.home, omega arith)
+      subst (λ (r : RefParts). Leads S' b r) (let z : own ≡ t = cc in z) (o, m.named, m.comes, m.generation, m.home ∙ sym like.home, omega arith)
   next_after i b t e (fresh at f) = let same = alike_same b o f in
       let is : target_of a ≡ Some t = sym m.link ∙ sym (ap target_of f) ∙ e in
-      let (c, named, there, era, home, up) = m.base.ordered.next p a t m.base.here is in let (d, stands, like) = keeps (t.index - 1) c there in let lt = m.below t c is there in
-      (d, named, stands, like.era ∙ era, like.home ∙ home ∙ sym m.home ∙ sym same.home, omega arith)
+      let (c, named, there, generation, home, up) = m.base.ordered.next p a t m.base.here is in let (d, stands, like) = keeps (t.index - 1) c there in let lt = m.below t c is there in
+      (d, named, stands, like.generation ∙ generation, like.home ∙ home ∙ sym m.home ∙ sym same.home, omega arith)
   next_after i b t e (stayed ne s) = leads_on S S' b b t (keeps (t.index - 1)) refl (omega arith) (m.base.ordered.next i b t s e)
 
   one_after : (i j : ℕ) (b c : Spot) → b.home ≡ c.home → b.rank ≡ c.rank → Was S (own.index - 1) o i b → Was S (own.index - 1) o j c → i ≡ j

@@ -12,4 +12,10 @@ pub mod Publishing
 pub mod Unlinking
 pub mod Openings
 pub mod Shows
+pub mod Hiding
+pub mod Frozen
 pub mod MichaelLaws
+pub mod Ways
+pub mod PathRows
+pub mod RootPaths
+pub mod ListEnds

@@ -16,42 +16,42 @@ count_set test l i a b at =
 -- the cell is a linked record without a mark, with this key
 abbrev pub HasKey : ShapeCell → ℕ → Type 0
 HasKey hidden k = ⊥
-HasKey (root era body m) k = ⊥
-HasKey (linked era body m) k = (¬ HasMark (link_at body 3)) × (key_at body ≡ k)
-HasKey (out era body m n) k = ⊥
+HasKey (root generation body m) k = ⊥
+HasKey (linked generation body m) k = (¬ HasMark (link_at body 3)) × (key_at body ≡ k)
+HasKey (out generation body m n) k = ⊥
 
 -- a cell has one key
 pub one_key : (cell : ShapeCell) (k q : ℕ) → HasKey cell k → HasKey cell q → k ≡ q
 one_key hidden k q a b = absurd a
-one_key (root era body m) k q a b = absurd a
-one_key (linked era body m) k q a b = sym a.1 ∙ b.1
-one_key (out era body m n) k q a b = absurd a
+one_key (root generation body m) k q a b = absurd a
+one_key (linked generation body m) k q a b = sym a.1 ∙ b.1
+one_key (out generation body m n) k q a b = absurd a
 
 -- the cell is a record with this body, which is marked or was taken out, and its removal has this position
 abbrev pub MarkedAs : ShapeCell → List ℕ → ℕ → Type 0
 MarkedAs hidden body m = ⊥
-MarkedAs (root era b n) body m = ⊥
-MarkedAs (linked era b n) body m = HasMark (link_at b 3) × (b ≡ body) × (n ≡ m)
-MarkedAs (out era b n k) body m = (b ≡ body) × (n ≡ m)
+MarkedAs (root generation b n) body m = ⊥
+MarkedAs (linked generation b n) body m = HasMark (link_at b 3) × (b ≡ body) × (n ≡ m)
+MarkedAs (out generation b n k) body m = (b ≡ body) × (n ≡ m)
 
 -- a key is there where a cell has it
 pub present_at : (cells : List ShapeCell) (i k : ℕ) (cell : ShapeCell) → At cells i cell → HasKey cell k → IsPresent cells k
 present_at cells i k hidden at has = absurd has
-present_at cells i k (root era body m) at has = absurd has
-present_at cells i k (linked era body m) at has = (i, era, m, body, at, has.0, has.1)
-present_at cells i k (out era body m n) at has = absurd has
+present_at cells i k (root generation body m) at has = absurd has
+present_at cells i k (linked generation body m) at has = (i, generation, m, body, at, has.0, has.1)
+present_at cells i k (out generation body m n) at has = absurd has
 
 -- the cell of a marked record
 marked_cell : {cells : List ShapeCell} {i m : ℕ} {body : List ℕ} → IsMarked cells i body m 0 → (cell : ShapeCell) × At cells i cell × MarkedAs cell body m
-marked_cell {i = i} {m = m} {body = body} (still era at mark) = (linked era body m, at, (mark, refl, refl))
-marked_cell {i = i} {m = m} {body = body} (gone era n at late) = (out era body m n, at, (refl, refl))
+marked_cell {i = i} {m = m} {body = body} (still generation at mark) = (linked generation body m, at, (mark, refl, refl))
+marked_cell {i = i} {m = m} {body = body} (gone generation n at late) = (out generation body m n, at, (refl, refl))
 
 -- and back
 marked_at : (cells : List ShapeCell) (i m : ℕ) (body : List ℕ) (cell : ShapeCell) → At cells i cell → MarkedAs cell body m → IsMarked cells i body m 0
 marked_at cells i m body hidden at is = absurd is
-marked_at cells i m body (root era b n) at is = absurd is
-marked_at cells i m body (linked era b n) at is = subst (λ z. IsMarked cells i body z 0) is.2 (subst (λ z. IsMarked cells i z n 0) is.1 (still era at is.0))
-marked_at cells i m body (out era b n k) at is = subst (λ z. IsMarked cells i body z 0) is.1 (subst (λ z. IsMarked cells i z n 0) is.0 (gone era k at (omega arith)))
+marked_at cells i m body (root generation b n) at is = absurd is
+marked_at cells i m body (linked generation b n) at is = subst (λ z. IsMarked cells i body z 0) is.2 (subst (λ z. IsMarked cells i z n 0) is.1 (still generation at is.0))
+marked_at cells i m body (out generation b n k) at is = subst (λ z. IsMarked cells i body z 0) is.1 (subst (λ z. IsMarked cells i z n 0) is.0 (gone generation k at (omega arith)))
 
 module _ (cells : List ShapeCell) (i : ℕ) (a b : ShapeCell) (was : At cells i a) where
   -- the cell that was set

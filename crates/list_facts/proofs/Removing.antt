@@ -24,11 +24,11 @@ module _ {S S' : ℕ → Spot → Type 0} {p : ℕ} {a a' b : Spot} {gone : RefP
   it_goes t c e s = let is : Some gone ≡ Some t = sym m.leads ∙ e in let z : gone ≡ t = cc in at_gone (t.index - 1) c (ap (λ (r : RefParts). r.index - 1) (sym z)) s
 
   behind : (b.home ≡ a.home) × (a.rank < b.rank)
-  behind = let (c, named, at, era, home, up) = m.base.ordered.next p a gone m.base.here m.leads in let same = it_goes gone c m.leads at in (sym same.home ∙ home, omega arith)
+  behind = let (c, named, at, generation, home, up) = m.base.ordered.next p a gone m.base.here m.leads in let same = it_goes gone c m.leads at in (sym same.home ∙ home, omega arith)
 
   -- what leads to it is in its list
   leads_there : (i : ℕ) (c : Spot) (t : RefParts) → S i c → target_of c ≡ Some t → t.index - 1 ≡ gone.index - 1 → (c.home ≡ a.home) × (c.rank < b.rank)
-  leads_there i c t s e q = let (d, named, at, era, home, up) = m.base.ordered.next i c t s e in let same = at_gone (t.index - 1) d q at in (sym home ∙ same.home ∙ behind.0, omega arith)
+  leads_there i c t s e q = let (d, named, at, generation, home, up) = m.base.ordered.next i c t s e in let same = at_gone (t.index - 1) d q at in (sym home ∙ same.home ∙ behind.0, omega arith)
 
   -- and is the node
   leads_alone : (i : ℕ) (c : Spot) (t : RefParts) → i ≢ p → S i c → target_of c ≡ Some t → t.index - 1 ≡ gone.index - 1 → (c.home ≡ a.home) × (c.rank < b.rank) → Dec (a.rank ≤ c.rank) → Dec (c.rank ≡ a.rank) → ⊥
@@ -44,7 +44,7 @@ module _ {S S' : ℕ → Spot → Type 0} {p : ℕ} {a a' b : Spot} {gone : RefP
 
   -- and its own link does
   pub past : (t : RefParts) → target_of b ≡ Some t → t.index - 1 ≢ gone.index - 1
-  past t e q = let (d, named, at, era, home, up) = m.base.ordered.next (gone.index - 1) b t m.there e in let same = at_gone (t.index - 1) d q at in omega arith
+  past t e q = let (d, named, at, generation, home, up) = m.base.ordered.next (gone.index - 1) b t m.there e in let same = at_gone (t.index - 1) d q at in omega arith
 
   -- what stood elsewhere still stands
   left : (i : ℕ) (c : Spot) → i ≢ gone.index - 1 → S i c → Stays S' i c

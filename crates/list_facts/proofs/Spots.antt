@@ -11,7 +11,7 @@ target_of a = (link_at a.body 3).target
 
 -- what a link leads up to
 abbrev pub Leads : (ℕ → Spot → Type 0) → Spot → RefParts → Type 0
-Leads S a t = (b : Spot) × (0 < t.index) × S (t.index - 1) b × (b.era ≡ t.generation) × (b.home ≡ a.home) × (a.rank < b.rank)
+Leads S a t = (b : Spot) × (0 < t.index) × S (t.index - 1) b × (b.generation ≡ t.generation) × (b.home ≡ a.home) × (a.rank < b.rank)
 
 -- the target of a link that comes no later than this spot
 abbrev pub Reaches : (ℕ → Spot → Type 0) → Spot → Spot → Type 0
@@ -28,11 +28,11 @@ pub record Ordered (S : ℕ → Spot → Type 0) : Type 0 where
 pub record Alike (a b : Spot) : Type 0 where
   pub home : a.home ≡ b.home
   pub rank : a.rank ≡ b.rank
-  pub era : a.era ≡ b.era
+  pub generation : a.generation ≡ b.generation
 
 -- a spot is in its own place
 pub alike_same : (a b : Spot) → a ≡ b → Alike a b
-alike_same a b e = record { home = ap (λ (s : Spot). s.home) e; rank = ap (λ (s : Spot). s.rank) e; era = ap (λ (s : Spot). s.era) e }
+alike_same a b e = record { home = ap (λ (s : Spot). s.home) e; rank = ap (λ (s : Spot). s.rank) e; generation = ap (λ (s : Spot). s.generation) e }
 
 -- where something like the spot stands
 abbrev pub Stays : (ℕ → Spot → Type 0) → ℕ → Spot → Type 0
@@ -40,8 +40,8 @@ Stays S i b = (c : Spot) × S i c × Alike c b
 
 -- where a link leads up, another link to the same target does that comes no later
 pub leads_on : (S S' : ℕ → Spot → Type 0) (a b : Spot) (t : RefParts) → ((c : Spot) → S (t.index - 1) c → Stays S' (t.index - 1) c) → a.home ≡ b.home → a.rank ≤ b.rank → Leads S b t → Leads S' a t
-leads_on S S' a b t keep home rank (c, named, at, era, same, up) =
-    let (d, there, like) = keep c at in (d, named, there, like.era ∙ era, like.home ∙ same ∙ sym home, (let r = like.rank in omega arith))
+leads_on S S' a b t keep home rank (c, named, at, generation, same, up) =
+    let (d, there, like) = keep c at in (d, named, there, like.generation ∙ generation, like.home ∙ same ∙ sym home, (let r = like.rank in omega arith))
 
 -- and where it leads to what comes no later than a spot, it does so still
 pub reaches_on : (S S' : ℕ → Spot → Type 0) (a b c d : Spot) → ((t : RefParts) (g : Spot) → target_of b ≡ Some t → S (t.index - 1) g → Stays S' (t.index - 1) g) → target_of a ≡ target_of b → c.rank ≤ d.rank → Reaches S b c → Reaches S' a d

@@ -1,5 +1,5 @@
 -- What ties a list to its history, after one cell was set.
-use Rattle.std.proofs.Common.{◌≡◌, ◌≢◌, ℕ, ◌+◌, ◌-◌, ◌<◌, List, [], ◌∷◌, ◌++◌, length, set, Bool, true, false, not, cond, eqb, ◌&&◌, ◌||◌, Some, sym, refl, ap, ◌∙◌, subst, arith, ⊎_elim}
+use Rattle.std.proofs.Common.{◌≡◌, ◌≢◌, ℕ, ◌+◌, ◌-◌, ◌<◌, ◌≤◌, ◌⊎◌, inl, inr, List, [], ◌∷◌, ◌++◌, length, set, Bool, true, false, not, cond, eqb, ◌&&◌, ◌||◌, Some, sym, refl, ap, ◌∙◌, subst, arith, ⊎_elim}
 use Rattle.std.proofs.lemmas.Bool.{eqb-true, eq-eqb, ne_eqb, and_parts, and_from, or_cases, or_left, or_right, not_from_false, both_ways, not-true}
 use Rattle.std.proofs.lemmas.List.Sums.{sum_by-append}
 use Rattle.atomic_table.proofs.Lists.{at_longer, at_last}
@@ -13,7 +13,8 @@ use Rattle.row_words.specs.Packing.{IsLink}
 use Rattle.record_rule.specs.Inputs.{ShapeCell, linked, ShapeInput, Trace}
 use Rattle.record_rule.specs.Facts.{At, link_at, key_at, with_link, mark_bit, HasMark, Near, at_root, at_held, ShapeFacts}
 use Rattle.record_rule.specs.Laws.{NodeIs, grown}
-use Rattle.list_facts.specs.Tellings.{IsPresent, IsMarked, is_marked_cell, ListTold}
+use Rattle.record_rule.proofs.Lists.{below_at}
+use Rattle.list_facts.specs.Tellings.{IsPresent, IsMarked, still, gone, is_marked_cell, ListTold}
 use Rattle.list_facts.proofs.Present.{count_set, HasKey, one_key, MarkedAs, present_at, key_there, present_other, present_here, present_set, present_more, present_less, marked_set, marked_less}
 use Rattle.list_facts.proofs.Bodies.{link_with_link, key_with_link}
 use Rattle.list_facts.proofs.Nodes.{cell_near, clean_link}
@@ -30,12 +31,12 @@ contains_added updates c number k q = ap (λ (keys : Keys). contains keys q) (ke
 contains_removed : (updates : List Update) (c number k q : ℕ) → contains (keys_of (updates ++ update c number k false ∷ [])) q ≡ (not (eqb q k) && contains (keys_of updates) q)
 contains_removed updates c number k q = ap (λ (keys : Keys). contains keys q) (keys_of-push updates (update c number k false)) ∙ contains-remove (keys_of updates) k q
 
--- how many removals there are after an update
+-- how many taken_out there are after an update
 removals_in-push : (updates : List Update) (u : Update) → removals_in (updates ++ u ∷ []) ≡ removals_in updates + cond (not u.added) 1 0
 removals_in-push updates u = omega (arith, sum_by-append (λ (v : Update). cond (not v.added) 1 0) updates (u ∷ []))
 
 -- the update at this position, from 1, is a removal of the body's key
-abbrev IsRemoval : List Update → List ℕ → ℕ → Type 0
+abbrev pub IsRemoval : List Update → List ℕ → ℕ → Type 0
 IsRemoval updates body m = (0 < m) × ((u : Update) × At updates (m - 1) u × (u.key ≡ key_at body) × (u.added ≡ false))
 
 -- it is one still after an update more
@@ -46,14 +47,24 @@ removal_longer updates u body m p = (p.0, (p.1.0, at_longer updates (u ∷ []) (
 removal_last : (updates : List Update) (c number k m : ℕ) (body : List ℕ) → m ≡ length updates + 1 → key_at body ≡ k → IsRemoval (updates ++ update c number k false ∷ []) body m
 removal_last updates c number k m body last is = (omega arith, (update c number k false, at_last updates (update c number k false) (m - 1) (omega arith), sym is, refl))
 
+-- a marked record, linked or taken out behind some start, is marked
+marked_any : {cells : List ShapeCell} {i m start : ℕ} {body : List ℕ} → IsMarked cells i body m start → IsMarked cells i body m 0
+marked_any (still generation at mark) = still generation at mark
+marked_any (gone generation n at late) = gone generation n at (omega arith)
+
+-- Each marked record has the position of the removal that marked it, and is the only one that has it
+pub one_marked : {x : ShapeInput} {h : Trace} → ListTold x h → (i j m start since : ℕ) (body other : List ℕ) → IsMarked x.cells i body m start → IsMarked x.cells j other m since → (i ≡ j) × IsRemoval h.updates body m
+one_marked told i j m start since body other p q = (told.alone i j m body other (marked_any p) (marked_any q), told.marks i m body (marked_any p))
+
 -- one cell was set
 module _ {x : ShapeInput} {h : Trace} (told : ListTold x h) (i : ℕ) (a b : ShapeCell) (was : At x.cells i a) where
   -- no update: the cell has the keys and the marks that it had, and a record was taken out or none
-  pub told_moved : (removals : List RefParts) → ((k : ℕ) → HasKey a k → HasKey b k) → ((k : ℕ) → HasKey b k → HasKey a k) → ((m : ℕ) (body : List ℕ) → MarkedAs b body m → MarkedAs a body m)
-      → length removals + cond (is_marked_cell b) 1 0 ≡ length x.removals + cond (is_marked_cell a) 1 0 → ListTold (record x { cells = set x.cells i b; removals = removals }) h
-  told_moved removals more less marks counts = record {
+  pub told_moved : (taken_out : List RefParts) → ((k : ℕ) → HasKey a k → HasKey b k) → ((k : ℕ) → HasKey b k → HasKey a k) → ((m : ℕ) (body : List ℕ) → MarkedAs b body m → MarkedAs a body m)
+      → length taken_out + cond (is_marked_cell b) 1 0 ≡ length x.taken_out + cond (is_marked_cell a) 1 0 → ListTold (record x { cells = set x.cells i b; taken_out = taken_out }) h
+  told_moved taken_out more less marks counts = record {
     keys = λ k. (λ c. present_more x.cells i a b was more k ((told.keys k).0 c), λ p. (told.keys k).1 (present_less x.cells i a b was less k p));
     marks = λ j m body p. told.marks j m body (marked_less x.cells i a b was marks j m body p);
+    alone = λ j k m body other p q. told.alone j k m body other (marked_less x.cells i a b was marks j m body p) (marked_less x.cells i a b was marks k m other q);
     balance = omega (arith, told.balance, counts, count_set is_marked_cell x.cells i a b was);
   }
 
@@ -79,6 +90,7 @@ module _ {x : ShapeInput} {h : Trace} (told : ListTold x h) (i : ℕ) (a b : Sha
       told_added = record {
         keys = λ q. (keys_added q, added_keys q);
         marks = λ j m body p. removal_longer h.updates (update c number k true) body m (told.marks j m body (marked_less x.cells i a b was (λ z d e. absurd (unmarked z d e)) j m body p));
+        alone = λ j q m body other p r. told.alone j q m body other (marked_less x.cells i a b was (λ z d e. absurd (unmarked z d e)) j m body p) (marked_less x.cells i a b was (λ z d e. absurd (unmarked z d e)) q m other r);
         balance = let count = ap {B = ℕ} (λ (t : Bool). cond t 1 0) counts in omega (arith, told.balance, count, removals_in-push h.updates (update c number k true), count_set is_marked_cell x.cells i a b was);
       }
 
@@ -111,11 +123,23 @@ module _ {x : ShapeInput} {h : Trace} (told : ListTold x h) (i : ℕ) (a b : Sha
           (λ old. removal_longer h.updates (update c number k false) body m (told.marks j m body old))
           (marked_set x.cells i a b was j m body p)
 
+      -- a record that was marked before has the position of an older one
+      marked_older : (j m : ℕ) (body : List ℕ) → IsMarked x.cells j body m 0 → m ≢ length h.updates + 1
+      marked_older j m body p same = let old = told.marks j m body p in let b = below_at h.updates (m - 1) old.1.0 old.1.1 in omega arith
+
+      -- so no other record has its position
+      marked_alone : (j q m : ℕ) (body other : List ℕ) → ((j ≡ i) × MarkedAs b body m) ⊎ IsMarked x.cells j body m 0 → ((q ≡ i) × MarkedAs b other m) ⊎ IsMarked x.cells q other m 0 → j ≡ q
+      marked_alone j q m body other (inl p) (inl r) = p.0 ∙ sym r.0
+      marked_alone j q m body other (inl p) (inr r) = absurd (marked_older q m other r (marked m body p.1).0)
+      marked_alone j q m body other (inr p) (inl r) = absurd (marked_older j m body p (marked m other r.1).0)
+      marked_alone j q m body other (inr p) (inr r) = told.alone j q m body other p r
+
       -- so a removal keeps what is told
       pub told_removed : ListTold (record x { cells = set x.cells i b }) (grown h (Some (update c number k false)))
       told_removed = record {
         keys = λ q. (keys_removed q, removed_keys q);
         marks = removal_marked;
+        alone = λ j q m body other p r. marked_alone j q m body other (marked_set x.cells i a b was j m body p) (marked_set x.cells i a b was q m other r);
         balance =
             let old = ap {B = ℕ} (λ (t : Bool). cond t 1 0) before in
             let new = ap {B = ℕ} (λ (t : Bool). cond t 1 0) after in
@@ -123,30 +147,30 @@ module _ {x : ShapeInput} {h : Trace} (told : ListTold x h) (i : ℕ) (a b : Sha
       }
 
 -- with another body of the same key, without a mark, a node's cell has the keys that it had
-key_kept : (near : Near) (era m m' : ℕ) (body body' : List ℕ) → ¬ HasMark (link_at body' 3) → key_at body' ≡ key_at body → (k : ℕ) → HasKey (cell_near near era body m) k → HasKey (cell_near near era body' m') k
-key_kept (at_root i) era m m' body body' clear is k has = absurd has
-key_kept (at_held r note) era m m' body body' clear is k has = (clear, is ∙ has.1)
+key_kept : (near : Near) (generation m m' : ℕ) (body body' : List ℕ) → ¬ HasMark (link_at body' 3) → key_at body' ≡ key_at body → (k : ℕ) → HasKey (cell_near near generation body m) k → HasKey (cell_near near generation body' m') k
+key_kept (at_root i) generation m m' body body' clear is k has = absurd has
+key_kept (at_held r note) generation m m' body body' clear is k has = (clear, is ∙ has.1)
 
 -- it isn't marked
-pub mark_none : (near : Near) (era m : ℕ) (body : List ℕ) → ¬ HasMark (link_at body 3) → (m' : ℕ) (body' : List ℕ) → MarkedAs (cell_near near era body m) body' m' → ⊥
-mark_none (at_root i) era m body clear m' body' is = absurd is
-mark_none (at_held r note) era m body clear m' body' is = clear is.0
+pub mark_none : (near : Near) (generation m : ℕ) (body : List ℕ) → ¬ HasMark (link_at body 3) → (m' : ℕ) (body' : List ℕ) → MarkedAs (cell_near near generation body m) body' m' → ⊥
+mark_none (at_root i) generation m body clear m' body' is = absurd is
+mark_none (at_held r note) generation m body clear m' body' is = clear is.0
 
 -- so it isn't counted
-mark_uncounted : (near : Near) (era m : ℕ) (body : List ℕ) → ¬ HasMark (link_at body 3) → is_marked_cell (cell_near near era body m) ≡ false
-mark_uncounted (at_root i) era m body clear = refl
-mark_uncounted (at_held r note) era m body clear = ne_eqb (mark_bit (link_at body 3)) 1 clear
+mark_uncounted : (near : Near) (generation m : ℕ) (body : List ℕ) → ¬ HasMark (link_at body 3) → is_marked_cell (cell_near near generation body m) ≡ false
+mark_uncounted (at_root i) generation m body clear = refl
+mark_uncounted (at_held r note) generation m body clear = ne_eqb (mark_bit (link_at body 3)) 1 clear
 
 -- another link without a mark, at a node without one, changes nothing of what is told
 pub told_turned : {s : ShapeFacts} {cells : List ShapeCell} {near : Near} {f : ℕ} {old : LinkParts} (n : NodeIs s cells near f old) → f ≡ 3 → ¬ HasMark old → (new : LinkParts) (m : ℕ) → IsLink new → ¬ HasMark new
-    → {x : ShapeInput} {h : Trace} → ListTold x h → At x.cells n.index (cell_near near n.era n.body n.marked) → ListTold (record x { cells = set x.cells n.index (cell_near near n.era (with_link n.body f n.era new) m) }) h
+    → {x : ShapeInput} {h : Trace} → ListTold x h → At x.cells n.index (cell_near near n.generation n.body n.marked) → ListTold (record x { cells = set x.cells n.index (cell_near near n.generation (with_link n.body f n.generation new) m) }) h
 told_turned {near = near} {f = f} n field clear new m in_range new_clear {x = x} told at =
-    let after : List ℕ = with_link n.body f n.era new in
+    let after : List ℕ = with_link n.body f n.generation new in
     let was : ¬ HasMark (link_at n.body 3) = clean_link n field clear in
-    let is : ¬ HasMark (link_at after 3) = rw (link_with_link n.body f n.era new field n.long in_range) new_clear in
-    let key : key_at after ≡ key_at n.body = key_with_link n.body f n.era new field in
-    told_moved told n.index (cell_near near n.era n.body n.marked) (cell_near near n.era after m) at x.removals
-    (key_kept near n.era n.marked m n.body after is key)
-    (key_kept near n.era m n.marked after n.body was (sym key))
-    (λ k body has. absurd (mark_none near n.era m after is k body has))
-    (ap {B = ℕ} (λ t. length x.removals + cond t 1 0) (mark_uncounted near n.era m after is ∙ sym (mark_uncounted near n.era n.marked n.body was)))
+    let is : ¬ HasMark (link_at after 3) = rw (link_with_link n.body f n.generation new field n.long in_range) new_clear in
+    let setup : key_at after ≡ key_at n.body = key_with_link n.body f n.generation new field in
+    told_moved told n.index (cell_near near n.generation n.body n.marked) (cell_near near n.generation after m) at x.taken_out
+    (key_kept near n.generation n.marked m n.body after is setup)
+    (key_kept near n.generation m n.marked after n.body was (sym setup))
+    (λ k body has. absurd (mark_none near n.generation m after is k body has))
+    (ap {B = ℕ} (λ t. length x.taken_out + cond t 1 0) (mark_uncounted near n.generation m after is ∙ sym (mark_uncounted near n.generation n.marked n.body was)))

@@ -2,3 +2,5 @@ pub mod Lists
 pub mod Tellings
 pub mod Steps
 pub mod Michael
+pub mod Paths
+pub mod ClosedLists

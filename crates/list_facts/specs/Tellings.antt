@@ -1,48 +1,41 @@
 -- What ties a list to its history, and what a load of a link shows of it.
 use Rattle.std.specs.Prelude.{◌≡◌, ℕ, ◌+◌, ◌-◌, ◌%◌, ◌<◌, ◌≤◌, ◌↔◌, ◌==◌, List, length, count_by, Bool, true, false, IsTrue, Option, Some, None, MatchOption}
-use Rattle.set_model.specs.declared.calls.Call.{Call}
 use Rattle.set_model.specs.declared.calls.Update.{Update}
 use Rattle.set_model.specs.Keys.{contains}
-use Rattle.set_model.specs.Machine.{answer_of, reply_of_answer}
-use Rattle.set_model.specs.Histories.{call_of, keys_of, removals_in, IsRead}
-use Rattle.record_memory.specs.declared.books.Key.{Key}
+use Rattle.set_model.specs.Histories.{keys_of, removals_in}
+use Rattle.record_memory.specs.declared.books.Setup.{Setup}
 use Rattle.row_words.specs.Refs.{RefParts}
 use Rattle.record_rule.specs.Inputs.{ShapeCell, hidden, root, linked, out, ShapeInput, Trace}
 use Rattle.record_rule.specs.Facts.{At, link_at, key_at, mark_bit, HasMark, Sight}
 
--- the set machine: an update is one that it answers yes, and a read is told what it answers
-abbrev pub set_legal : List Update → Update → Type 0
-set_legal updates u = answer_of (call_of u) (keys_of updates) ≡ true
-
-abbrev pub set_replies : List Update → Call → Bool → Type 0
-set_replies updates call r = IsRead call (reply_of_answer r) × (r ≡ answer_of call (keys_of updates))
-
 -- a linked record without a mark has the key
 abbrev pub IsPresent : List ShapeCell → ℕ → Type 0
-IsPresent cells k = (i era m : ℕ) × (body : List ℕ) × At cells i (linked era body m) × (¬ HasMark (link_at body 3)) × (key_at body ≡ k)
+IsPresent cells k = (i generation m : ℕ) × (body : List ℕ) × At cells i (linked generation body m) × (¬ HasMark (link_at body 3)) × (key_at body ≡ k)
 
 -- a linked or taken-out record with a marked link; one that was taken out is at this number or a later one
 pub data IsMarked (cells : List ShapeCell) (i : ℕ) (body : List ℕ) (m start : ℕ) : Type 0 where
-  still : (era : ℕ) → At cells i (linked era body m) → HasMark (link_at body 3) → IsMarked cells i body m start
-  gone : (era n : ℕ) → At cells i (out era body m n) → start ≤ n → IsMarked cells i body m start
+  still : (generation : ℕ) → At cells i (linked generation body m) → HasMark (link_at body 3) → IsMarked cells i body m start
+  gone : (generation n : ℕ) → At cells i (out generation body m n) → start ≤ n → IsMarked cells i body m start
 
 abbrev pub is_marked_cell : ShapeCell → Bool
 is_marked_cell hidden = false
-is_marked_cell (root era body m) = false
-is_marked_cell (linked era body m) = mark_bit (link_at body 3) == 1
-is_marked_cell (out era body m n) = false
+is_marked_cell (root generation body m) = false
+is_marked_cell (linked generation body m) = mark_bit (link_at body 3) == 1
+is_marked_cell (out generation body m n) = false
 
 pub record ListTold (x : ShapeInput) (h : Trace) : Type 0 where
   -- the keys present are those that the updates leave
   pub keys : (k : ℕ) → IsTrue (contains (keys_of h.updates) k) ↔ IsPresent x.cells k
   -- each marked record has the position, from 1, of the removal that marked it
   pub marks : (i m : ℕ) (body : List ℕ) → IsMarked x.cells i body m 0 → (0 < m) × ((u : Update) × At h.updates (m - 1) u × (u.key ≡ key_at body) × (u.added ≡ false))
+  -- and of that one alone: no other record has its position
+  pub alone : (i j m : ℕ) (body other : List ℕ) → IsMarked x.cells i body m 0 → IsMarked x.cells j other m 0 → i ≡ j
   -- each removal marked a record, which was taken out or is linked still
-  pub balance : removals_in h.updates ≡ length x.removals + count_by is_marked_cell x.cells
+  pub balance : removals_in h.updates ≡ length x.taken_out + count_by is_marked_cell x.cells
 
 -- no key of this list between these ranks is in the set after the updates; without a high rank, none above the low one
-abbrev pub NoneWithin : Key → ℕ → ℕ → Option ℕ → List Update → Type 0
-NoneWithin key home low high updates = (k : ℕ) → k % key.roots ≡ home → low < k + 1 → MatchOption high (Unit {0}) (λ r. k + 1 < r) → contains (keys_of updates) k ≡ false
+abbrev pub NoneWithin : Setup → ℕ → ℕ → Option ℕ → List Update → Type 0
+NoneWithin setup home low high updates = (k : ℕ) → k % setup.roots ≡ home → low < k + 1 → MatchOption high (Unit {0}) (λ r. k + 1 < r) → contains (keys_of updates) k ≡ false
 
 abbrev pub rank_of : Option (List ℕ) → Option ℕ
 rank_of None = None
@@ -53,9 +46,9 @@ abbrev pub rank_at : Option ℕ → List ℕ → ℕ
 rank_at None body = key_at body + 1
 rank_at (Some n) body = 0
 
-abbrev pub home_at : Key → Option ℕ → List ℕ → ℕ
-home_at key None body = key_at body % key.roots
-home_at key (Some n) body = n
+abbrev pub home_at : Setup → Option ℕ → List ℕ → ℕ
+home_at setup None body = key_at body % setup.roots
+home_at setup (Some n) body = n
 
 -- the link's target was seen, or the link has none
 abbrev pub IsTargetSeen : Option RefParts → Option (List ℕ) → Type 0
@@ -63,8 +56,8 @@ IsTargetSeen None b = b ≡ None
 IsTargetSeen (Some t) b = (body : List ℕ) × (b ≡ Some body)
 
 -- what a load of a link without a mark shows of the set at that step
-pub record ListShown (key : Key) (y : Sight) (updates : List Update) : Type 0 where
+pub record ListShown (setup : Setup) (y : Sight) (updates : List Update) : Type 0 where
   -- no key is present between the node and the link's target
-  pub between : ¬ HasMark (link_at y.body 3) → y.field ≡ 3 → IsTargetSeen (link_at y.body 3).target y.target → NoneWithin key (home_at key y.node y.body) (rank_at y.node y.body) (rank_of y.target) updates
+  pub between : ¬ HasMark (link_at y.body 3) → y.field ≡ 3 → IsTargetSeen (link_at y.body 3).target y.target → NoneWithin setup (home_at setup y.node y.body) (rank_at y.node y.body) (rank_of y.target) updates
   -- the node's key is
   pub present : ¬ HasMark (link_at y.body 3) → y.node ≡ None → contains (keys_of updates) (key_at y.body) ≡ true

@@ -7,7 +7,7 @@ use Rattle.record_memory.specs.declared.steps.Word.TheVariants.{Drawn, Epoch, Lo
 use Rattle.record_memory.specs.Memory.{Memory, stretch, rows_in, address, word_at, size, memory, IsWord, fetch, put}
 
 -- a store before a stretch, behind it and in it
-stretch_before : (start count i v : ℕ) (ws : List ℕ) → i < start → stretch start count (set ws i v) ≡ stretch start count ws
+pub stretch_before : (start count i v : ℕ) (ws : List ℕ) → i < start → stretch start count (set ws i v) ≡ stretch start count ws
 stretch_before start count i v ws h = ap (take count) (drop-set-lt start ws i v h)
 
 pub take-set : (n i v : ℕ) (ws : List ℕ) → i < n → take n (set ws i v) ≡ set (take n ws) i v
@@ -19,10 +19,10 @@ take-set (suc n) (suc i) v (x ∷ xs) h = ap (λ (r : List ℕ). x ∷ r) (take-
 pub drop-set_from : (start i v : ℕ) (ws : List ℕ) → start ≤ i → drop start (set ws i v) ≡ set (drop start ws) (i - start) v
 drop-set_from start i v ws h = let e : i ≡ start + (i - start) = omega arith in ap (λ (k : ℕ). drop start (set ws k v)) e ∙ drop-set-add start ws (i - start) v
 
-stretch_behind : (start count i v : ℕ) (ws : List ℕ) → start + count ≤ i → stretch start count (set ws i v) ≡ stretch start count ws
+pub stretch_behind : (start count i v : ℕ) (ws : List ℕ) → start + count ≤ i → stretch start count (set ws i v) ≡ stretch start count ws
 stretch_behind start count i v ws h = ap (take count) (drop-set_from start i v ws (omega arith)) ∙ take-set-le count (drop start ws) (i - start) v (omega arith)
 
-stretch_in : (start count k v : ℕ) (ws : List ℕ) → k < count → stretch start count (set ws (start + k) v) ≡ set (stretch start count ws) k v
+pub stretch_in : (start count k v : ℕ) (ws : List ℕ) → k < count → stretch start count (set ws (start + k) v) ≡ set (stretch start count ws) k v
 stretch_in start count k v ws h = ap (take count) (drop-set-add start ws k v) ∙ take-set count k v (drop start ws) h
 
 -- rows

@@ -13,7 +13,8 @@ use Rattle.record_memory.specs.declared.books.Standing.{Standing}
 use Rattle.record_memory.specs.declared.books.Standing.TheVariants.{Handing, TakenOut, Spent}
 use Rattle.row_words.specs.Refs.{RefParts}
 use Rattle.row_words.specs.Packing.{link_in}
-use Rattle.record_rule.specs.Kinds.{loaded, stored, stored_as, share_in, share_after, standing_after, field_store, field_load, is_idle, idle}
+use Rattle.record_memory.specs.declared.books.Moves.{Moves}
+use Rattle.record_rule.specs.Kinds.{moves_stored, loaded, stored, stored_as, share_in, share_after, standing_after, field_store, field_load, is_idle, idle}
 use Rattle.record_rule.specs.ChainRows.{IsChained, OwnsChain, unchained, quiet, IsRowStep, IsStill}
 use Rattle.record_rule.proofs.HandingOut.{known_within}
 
@@ -23,6 +24,11 @@ same_standing (Handing n) h = absurd h
 same_standing TakenOut h = absurd h
 same_standing Spent h = absurd h
 same_standing q h = refl
+
+-- and moves no record
+same_moves : (q : Standing) → IsChained q → (m : Moves) → moves_stored q m ≡ m
+same_moves (Handing n) h m = absurd h
+same_moves q h m = refl
 
 -- chain words don't matter to how many records are idle
 idle_as : (o : Option Share) → is_idle (unchained o) ≡ is_idle o
@@ -108,11 +114,11 @@ module _ (v w : View) (r : RefParts) (value : ℕ) (next : Option RefParts) (is 
   owns_at : (q : RefParts) → OwnsChain v q → Dec (q.index ≡ i) → OwnsChain w q
   owns_at q p (yes e) = let same : p.share ≡ o.share = some_same p.share o.share (sym p.known ∙ ap (share_in v) e ∙ o.known) in record {
     is_ref = p.is_ref;
-    within = subst (λ (x : View). q.index ≤ x.key.records) (sym then_is) p.within;
+    within = subst (λ (x : View). q.index ≤ x.setup.records) (sym then_is) p.within;
     share = after;
     known = ap (share_in w) e ∙ here;
     chained = subst IsChained (sym same_after) o.chained;
-    era = sym (ap (λ (x : Share). x.era) same) ∙ p.era;
+    generation = sym (ap (λ (x : Share). x.generation) same) ∙ p.generation;
     long = let l = length-set o.share.words 1 value in let m = o.long in omega arith;
   }
     where
@@ -120,11 +126,11 @@ module _ (v w : View) (r : RefParts) (value : ℕ) (next : Option RefParts) (is 
       some_same a b e = cc
   owns_at q p (no ne) = record {
     is_ref = p.is_ref;
-    within = subst (λ (x : View). q.index ≤ x.key.records) (sym then_is) p.within;
+    within = subst (λ (x : View). q.index ≤ x.setup.records) (sym then_is) p.within;
     share = p.share;
     known = there q.index p.is_ref.index.0 ne ∙ p.known;
     chained = p.chained;
-    era = p.era;
+    generation = p.generation;
     long = p.long;
   }
 
@@ -134,12 +140,12 @@ module _ (v w : View) (r : RefParts) (value : ℕ) (next : Option RefParts) (is 
 
   -- but for its chain word the same is known of the record
   unseen : unchained (Some after) ≡ unchained (get_or v.own.mine (i - 1) None)
-  unseen = (λ k. Some (record { standing = same_after k; era = o.share.era; removed = o.share.removed; words = set-set o.share.words 1 value 0 k })) ∙ sym (ap unchained o.known)
+  unseen = (λ k. Some (record { standing = same_after k; generation = o.share.generation; taken_number = o.share.taken_number; words = set-set o.share.words 1 value 0 k })) ∙ sym (ap unchained o.known)
 
   -- so nothing but steps and chain words changed
   pub still_store : IsStill v w
   still_store = subst (IsStill v) (sym then_is) record {
-    rest = ap (λ (l : List (Option Share)). record (quiet v) { own = record (quiet v).own { mine = l } }) (map-set_same unchained v.own.mine (i - 1) (Some after) None unseen);
+    rest = λ k. record (quiet v) { own = record (quiet v).own { mine = map-set_same unchained v.own.mine (i - 1) (Some after) None unseen k; moves = same_moves o.share.standing o.chained v.own.moves k } };
     made = field_store v i 1 value o.share ∷ [];
     steps = refl;
     each = one_step (idle v.own) (field_store v i 1 value o.share) record { index = i; field = 1; word = refl; first_three = omega arith; held = refl; idle = refl };

@@ -1,5 +1,5 @@
 -- Drawing a record: 1 is added to the number of records drawn.
-use Rattle.std.proofs.Common.{◌++◌, ◌≡◌, ◌≢◌, ℕ, ◌+◌, ◌-◌, ◌%◌, ◌<◌, ◌≤◌, ◌^◌, List, [], ◌∷◌, map, length, get_or, set, length-set, Bool, true, false, cond, ltb, sum_by, sym, refl, ap, ◌∙◌, subst, arith, ⊎_elim, Some, None, get_or-set_same}
+use Rattle.std.proofs.Common.{◌++◌, ◌≡◌, ◌≢◌, ℕ, ◌+◌, ◌-◌, ◌%◌, ◌<◌, ◌≤◌, ◌^◌, List, [], ◌∷◌, map, length, get_or, set, length-set, Bool, true, false, cond, ltb, sum_by, sym, refl, ap, ◌∙◌, subst, arith, ⊎_elim, Some, None, get_or-set_same, inr}
 use Rattle.std.proofs.lemmas.List.{map-set, length-map}
 use Rattle.std.proofs.lemmas.List.Sums.{sum_by-cons, sum_by-set}
 use Rattle.std.proofs.lemmas.Bool.{ltb-true, ltb-false, le-ltb, lt-ltb}
@@ -7,11 +7,11 @@ use Rattle.std.proofs.Math.Nat.{mod-eq_of_lt}
 use mathlib.Core.Option.{some}
 use lib.ListN.{get_elem?}
 use Rattle.atomic_table.proofs.Lists.{at_set, at_map}
-use Rattle.atomic_table.specs.Table.{State, Me, Allows, keeps}
+use Rattle.atomic_table.specs.Table.{State}
 use Rattle.set_model.specs.declared.names.AllocatorName.{AllocatorName}
-use Rattle.set_model.specs.declared.names.AllocatorName.TheVariants.{Bump}
+use Rattle.set_model.specs.declared.names.AllocatorName.TheVariants.{Bump, Once}
 use Rattle.record_memory.specs.declared.steps.Word.TheVariants.{Drawn}
-use Rattle.record_memory.specs.declared.books.Key.{Key}
+use Rattle.record_memory.specs.declared.books.Setup.{Setup}
 use Rattle.record_memory.specs.declared.books.View.{View}
 use Rattle.record_memory.specs.declared.books.Book.{Book}
 use Rattle.record_memory.specs.declared.books.Drawing.{Drawing}
@@ -21,14 +21,17 @@ use Rattle.record_memory.specs.declared.books.Place.{Place}
 use Rattle.record_memory.specs.declared.books.Place.TheVariants.{Undrawn, Root, Of}
 use Rattle.record_memory.specs.Memory.{Memory, memory, size}
 use Rattle.record_memory.proofs.Stores.{stores}
-use Rattle.record_rule.specs.Records.{Record, IsKey, IsSound, share, share_at, carried}
-use Rattle.record_rule.specs.Inputs.{shape_at, scheme_at, name_at, unnamed}
+use Rattle.record_rule.specs.Records.{Record, IsSetup, IsSound, share, share_at, carried}
+use Rattle.record_rule.specs.Inputs.{shape_at, scheme_at, taken_at, untaken}
 use Rattle.record_rule.specs.Facts.{ShapeFacts, CoverFacts}
-use Rattle.record_rule.specs.World.{Parts, IsLeftBy, IsLeft, overshoot_by, overshoot, Places, Rule}
-use Rattle.record_rule.specs.Kinds.{draw_step, drawn_share, drew, drawing_after, share_in, DrewNew}
+use Rattle.record_rule.specs.World.{AreUntouched, Parts, IsLeftBy, IsLeft, overshoot_by, overshoot, Places, Rule}
+use Rattle.record_rule.specs.Kinds.{draw_step, drawn_share, drew, drawing_after, share_in, DrewNew, Lawful}
 use Rattle.record_rule.proofs.Lists.{below_at, at_below, get_at, each_set, map_set_same}
 use Rattle.record_rule.proofs.Owned.{seen_by, unseen_by}
-use Rattle.record_rule.proofs.Rebuilt.{rebuilt}
+use Rattle.record_memory.specs.declared.books.Moves.{Moves}
+use Rattle.record_rule.specs.Kinds.{drew_one}
+use Rattle.record_rule.proofs.Counts.{Balances, counts_calm, counts_moved, balances_drawn}
+use Rattle.record_rule.proofs.Rebuilt.{not_held, rebuilt}
 use Rattle.record_rule.proofs.Steps.{book}
 use Rattle.record_rule.proofs.Quiet.{books_after, IsSameBook, outline_same, outline_after}
 
@@ -45,66 +48,78 @@ past_each (b ∷ bs) = let e = sum_by-cons overshoot b bs in let h = past_each b
 
 -- the record that is drawn
 abbrev drawn_record : ℕ → ℕ → Record → Record
-drawn_record c first r = record r { place = Of c (Handing 0); era = first; removed = 0 }
+drawn_record c first r = record r { place = Of c (Handing 0); generation = first; taken_number = 0 }
 
-module _ (key : Key) (is_key : IsKey key) (bump : key.allocator ≡ Bump) where
+module _ (setup : Setup) (is_setup : IsSetup setup) (bump : setup.allocator ≡ Bump) where
   -- a record that is left lies behind those that are drawn
-  left_from : (m : Memory) (i : ℕ) → IsLeft key m i → m.drawn ≤ i
-  left_from m i h = subst (λ (a : AllocatorName). IsLeftBy a key m i) bump h
+  left_from : (m : Memory) (i : ℕ) → IsLeft setup m i → m.drawn ≤ i
+  left_from m i h = subst (λ (a : AllocatorName). IsLeftBy a setup m i) bump h
 
   -- and what lies behind them is left
-  left_to : (m : Memory) (i : ℕ) → m.drawn ≤ i → IsLeft key m i
-  left_to m i h = subst (λ (a : AllocatorName). IsLeftBy a key m i) (sym bump) h
+  left_to : (m : Memory) (i : ℕ) → m.drawn ≤ i → IsLeft setup m i
+  left_to m i h = subst (λ (a : AllocatorName). IsLeftBy a setup m i) (sym bump) h
 
   -- the record that is drawn is sound
-  drawn_sound : (i c : ℕ) (r : Record) → c < key.callers → r.place ≡ Undrawn → IsSound key i r → IsSound key i (drawn_record c key.first r)
-  drawn_sound i c r caller at s = let old : r.era + 1 ≡ key.first = s.unborn at in record {
+  drawn_sound : (i c : ℕ) (r : Record) → c < setup.callers → r.place ≡ Undrawn → IsSound setup i r → IsSound setup i (drawn_record c setup.first r)
+  drawn_sound i c r caller at s = let old : r.generation + 1 ≡ setup.first = s.unborn at in record {
     eight = s.eight;
-    generations = λ f h. s.generations f h ∙ ap (λ (p : Place). carried p r.era f) at ∙ (let e : r.era ≡ key.first - 1 = omega arith in e)
-        ∙ sym (ap (λ b. cond b key.first (key.first - 1)) (le-ltb f 0 (omega arith)));
+    generations = λ f h. s.generations f h ∙ ap (λ (p : Place). carried p r.generation f) at ∙ (let e : r.generation ≡ setup.first - 1 = omega arith in e)
+        ∙ sym (ap (λ b. cond b setup.first (setup.first - 1)) (le-ltb f 0 (omega arith)));
     links = s.links;
-    within = is_key.first;
+    within = is_setup.first;
     roots = λ h. let no : ⊥ = (let e : Undrawn ≡ Root = sym at ∙ s.roots h in cc) in absurd no;
     no_root = λ e. let no : ⊥ = cc in absurd no;
-    root_era = λ e. let none : ⊥ = cc in absurd none;
+    unshelved = λ k e. let no : ⊥ = cc in no;
+    root_generation = λ e. let none : ⊥ = cc in absurd none;
     unborn = λ e. let no : ⊥ = cc in absurd no;
     blank = λ e. let no : ⊥ = cc in absurd no;
     born = λ _. omega arith;
     unfinished = λ d n e. let z : 0 ≡ n = cc in omega arith;
     callers = λ d t e. let z : c ≡ d = cc in omega arith;
+    renewable = λ d e. let none : ⊥ = cc in absurd none;
+  }
+
+  -- the words that no step changes are those of another allocator
+  drawn_untouched : (m : Memory) (n : ℕ) → AreUntouched setup m.lock m.blank m.drawn m.shelves m.cursors → AreUntouched setup m.lock m.blank (n + 1) m.shelves m.cursors
+  drawn_untouched m n u = record {
+    lock_is = u.lock_is;
+    blank_is = u.blank_is;
+    shelves_are = u.shelves_are;
+    cursors_are = u.cursors_are;
+    drawn_is = λ e. let same : Bump ≡ Once = sym bump ∙ e in let none : ⊥ = cc in absurd none;
   }
 
   -- after the draw of the record at n, one more is drawn
-  drawn_places : (records : List Record) (books : List Book) (m : Memory) (c n : ℕ) (b own : Book) (r : Record) → Places key records books m → get_elem? books c ≡ some b → get_elem? records n ≡ some r
-      → m.drawn ≡ n → n < key.records → own.caller ≡ b.caller → own.mine ≡ set b.mine n (Some (drawn_share key.first)) → overshoot own ≡ overshoot b → (own.drawing ≡ Past → ⊥)
-      → Places key (set records n (drawn_record c key.first r)) (set books c own) record m { drawn = n + 1 }
+  drawn_places : (records : List Record) (books : List Book) (m : Memory) (c n : ℕ) (b own : Book) (r : Record) → Places setup records books m → get_elem? books c ≡ some b → get_elem? records n ≡ some r
+      → m.drawn ≡ n → n < setup.records → own.caller ≡ b.caller → own.mine ≡ set b.mine n (Some (drawn_share setup.first)) → overshoot own ≡ overshoot b → (own.drawing ≡ Past → ⊥)
+      → Places setup (set records n (drawn_record c setup.first r)) (set books c own) record m { drawn = n + 1 }
   drawn_places records books m c n b own r p at there is lt caller mine weight fresh =
-      let new : Record = drawn_record c key.first r in let caller_lt : c < key.callers = let h = below_at books c b at in let e = p.callers in omega arith in
+      let new : Record = drawn_record c setup.first r in let caller_lt : c < setup.callers = let h = below_at books c b at in let e = p.callers in omega arith in
       let untouched : r.place ≡ Undrawn = p.left n r there (left_to m n (omega arith)) in let s = p.sound n r there in let f = p.books_fit c b at in
       let m' : Memory = record m { drawn = n + 1 } in record {
         many = length-set records n new ∙ p.many;
         rows = map_set_same (λ (x : Record). x.row) records n r new there refl ∙ p.rows;
-        sound = each_set (IsSound key) records n new p.sound (drawn_sound n c r caller_lt untouched s);
+        sound = each_set (IsSound setup) records n new p.sound (drawn_sound n c r caller_lt untouched s);
         left = λ i x e l. ⊎_elim (λ t. let h = left_from m' i l in let k : i ≡ n = t.0 in absurd (omega arith)) (λ t. p.left i x t.1 (left_to m i (let h = left_from m' i l in omega arith))) (at_set records n i new x e);
         undrawn = λ i x e u. ⊎_elim (λ t. let no : ⊥ = (let q : new ≡ x = t.1 in let v : Of c (Handing 0) ≡ Undrawn = ap (λ (y : Record). y.place) q ∙ u in cc) in absurd no)
             (λ t. left_to m' i (let h = left_from m i (p.undrawn i x t.1 u) in let ne : i ≢ n = t.0 in omega arith)) (at_set records n i new x e);
         drawn = omega arith;
-        blank = p.blank;
+        untouched = drawn_untouched m n p.untouched;
         callers = length-set books c own ∙ p.callers;
-        books_fit = books_after key m m' records (set records n new) books c own (λ h. omega arith)
+        books_fit = books_after setup m m' records (set records n new) books c own (λ h. omega arith)
             (λ d ne. map_set_same (share d) records n r new there (unseen_by c d (Handing 0) new refl ne ∙ sym (ap (λ (q : Place). share_at d q r) untouched)))
             record {
               number = caller ∙ f.number;
-              mine = mine ∙ ap (λ xs. set xs n (Some (drawn_share key.first))) f.mine ∙ ap (λ h. set (map (share c) records) n h) (sym (seen_by c (Handing 0) new refl ∙ ap Some (λ k. record { standing = Handing 0; era = key.first; removed = 0; words = s.blank untouched k })))
+              mine = mine ∙ ap (λ xs. set xs n (Some (drawn_share setup.first))) f.mine ∙ ap (λ h. set (map (share c) records) n h) (sym (seen_by c (Handing 0) new refl ∙ ap Some (λ k. record { standing = Handing 0; generation = setup.first; taken_number = 0; words = s.blank untouched k })))
                   ∙ sym (map-set (share c) records n new);
               past = λ h. absurd (fresh h);
             } p.books_fit;
       }
 
   -- no record is left, and this caller's last look was older than that
-  passed_places : (records : List Record) (books : List Book) (m : Memory) (c n : ℕ) (b own : Book) → Places key records books m → get_elem? books c ≡ some b
-      → m.drawn ≡ n → key.records ≤ n → own.caller ≡ b.caller → own.mine ≡ b.mine → overshoot own ≡ 1 → overshoot b ≡ 0
-      → Places key records (set books c own) record m { drawn = n + 1 }
+  passed_places : (records : List Record) (books : List Book) (m : Memory) (c n : ℕ) (b own : Book) → Places setup records books m → get_elem? books c ≡ some b
+      → m.drawn ≡ n → setup.records ≤ n → own.caller ≡ b.caller → own.mine ≡ b.mine → overshoot own ≡ 1 → overshoot b ≡ 0
+      → Places setup records (set books c own) record m { drawn = n + 1 }
   passed_places records books m c n b own p at is past caller mine one none =
       let f = p.books_fit c b at in let m' : Memory = record m { drawn = n + 1 } in let w = sum_by-set overshoot books c own b (below_at books c b at) in let g : overshoot (get_or books c b) ≡ overshoot b = ap overshoot (get_at books c b b at) in record {
         many = p.many;
@@ -113,25 +128,25 @@ module _ (key : Key) (is_key : IsKey key) (bump : key.allocator ≡ Bump) where
         left = λ i x e l. p.left i x e (left_to m i (let h = left_from m' i l in omega arith));
         undrawn = λ i x e u. let h = left_from m i (p.undrawn i x e u) in let k = below_at records i x e in let l = p.many in absurd (omega arith);
         drawn = let d = p.drawn in omega arith;
-        blank = p.blank;
+        untouched = drawn_untouched m n p.untouched;
         callers = length-set books c own ∙ p.callers;
-        books_fit = books_after key m m' records records books c own (λ h. omega arith) (λ d ne. refl)
+        books_fit = books_after setup m m' records records books c own (λ h. omega arith) (λ d ne. refl)
             record { number = caller ∙ f.number; mine = mine ∙ f.mine; past = λ h. omega arith } p.books_fit;
       }
 
   -- adding 1 does not wrap
-  whole : (records : List Record) (books : List Book) (m : Memory) (n : ℕ) → Places key records books m → m.drawn ≡ n → (n + 1) % 2 ^ 64 ≡ n + 1
-  whole records books m n p is = let d = p.drawn in let e = past_each books in let c = p.callers in let k = is_key.callers in let r = is_key.records in let h : n + 1 < 2 ^ 64 = omega arith in mod-eq_of_lt h
+  whole : (records : List Record) (books : List Book) (m : Memory) (n : ℕ) → Places setup records books m → m.drawn ≡ n → (n + 1) % 2 ^ 64 ≡ n + 1
+  whole records books m n p is = let d = p.drawn in let e = past_each books in let c = p.callers in let k = is_setup.callers in let r = is_setup.records in let h : n + 1 < 2 ^ 64 = omega arith in mod-eq_of_lt h
 
   module _ (shape : ShapeFacts) (cover : CoverFacts) where
     -- the rule after the step, with this book of its caller
     abbrev Kept : State (Unit {0}) View → ℕ → View → Book → Type 0
-    Kept s id v own = Rule shape cover key record { words = set s.words 0 (get_or s.words 0 0 + 1); homes = s.homes; views = set s.views id (record v { own = own }) }
+    Kept s id v own = Rule shape cover setup record { words = set s.words 0 (get_or s.words 0 0 + 1); homes = s.homes; views = set s.views id (record v { own = own }) }
 
-    module _ (s : State (Unit {0}) View) (u : Rule shape cover key s) (id : ℕ) (v : View) (at : get_elem? s.views id ≡ some v) (present : v.present ≡ true) (below : v.own.drawing ≡ Below) where
+    module _ (s : State (Unit {0}) View) (u : Rule shape cover setup s) (id : ℕ) (v : View) (at : get_elem? s.views id ≡ some v) (present : v.present ≡ true) (below : v.own.drawing ≡ Below) where
       -- the table, the number that the step finds and its caller
       abbrev m : Memory
-      m = memory key.callers key.records s.words
+      m = memory setup.callers setup.records s.words
 
       abbrev n : ℕ
       n = get_or s.words 0 0
@@ -141,7 +156,7 @@ module _ (key : Key) (is_key : IsKey key) (bump : key.allocator ≡ Bump) where
 
       -- the caller's book
       abbrev mine : get_elem? u.books c ≡ some v.own
-      mine = book shape cover key s u id v at present
+      mine = book shape cover setup s u id v at present
 
       -- it is the number of records drawn
       found : m.drawn ≡ n
@@ -149,78 +164,80 @@ module _ (key : Key) (is_key : IsKey key) (bump : key.allocator ≡ Bump) where
       found = refl
 
       -- which is one more afterwards
-      stored : memory key.callers key.records (set s.words 0 (n + 1)) ≡ record m { drawn = n + 1 }
-      stored = stores key.callers key.records s.words Drawn (n + 1) u.wide tt
+      stored : memory setup.callers setup.records (set s.words 0 (n + 1)) ≡ record m { drawn = n + 1 }
+      stored = stores setup.callers setup.records s.words Drawn (n + 1) u.wide tt
 
       -- the words are as many
-      wide : length (set s.words 0 (n + 1)) ≡ size key.callers key.records
+      wide : length (set s.words 0 (n + 1)) ≡ size setup.callers setup.records
       wide = length-set s.words 0 (n + 1) ∙ u.wide
 
       -- the caller didn't have the record before
-      old_none : n < key.records → share_in v (n + 1) ≡ None
+      old_none : n < setup.records → share_in v (n + 1) ≡ None
       old_none lt = let there = at_below u.records n (let k = u.places.many in omega arith) in let untouched : there.0.place ≡ Undrawn = u.places.left n there.0 there.1 (left_to m n (let e = found in omega arith)) in
           ap (λ (k : ℕ). get_or v.own.mine k None) (let e : n + 1 - 1 ≡ n = omega arith in e) ∙ ap (λ l. get_or l n None) (u.places.books_fit c v.own mine).mine
           ∙ get_at (map (share c) u.records) n (share c there.0) None (at_map (share c) u.records n there.0 there.1) ∙ ap (λ (q : Place). share_at c q there.0) untouched
 
       -- where one was left, the caller has it now
-      new_to : v.key ≡ key → n < key.records → (share_in v (n + 1) ≡ None) × (share_in (drew v n) (n + 1) ≡ Some (drawn_share v.key.first))
+      new_to : v.setup ≡ setup → n < setup.records → (share_in v (n + 1) ≡ None) × (share_in (drew v n) (n + 1) ≡ Some (drawn_share v.setup.first))
       new_to same lt = (
         old_none lt,
         let one : n + 1 - 1 ≡ n = omega arith in let long : n < length v.own.mine = (let e = ap length (u.places.books_fit c v.own mine).mine in let l = length-map u.records (share c) in let k = u.places.many in omega arith) in
             ap (λ (k : ℕ). get_or (drew v n).own.mine k None) one
-            ∙ ap (λ b. get_or (cond b (set v.own.mine n (Some (drawn_share v.key.first))) v.own.mine) n None) (lt-ltb n v.key.records (let e : v.key.records ≡ key.records = ap (λ (k : Key). k.records) same in omega arith))
-            ∙ get_or-set_same v.own.mine n (Some (drawn_share v.key.first)) None long,
+            ∙ ap (λ b. get_or (cond b (set v.own.mine n (Some (drawn_share v.setup.first))) v.own.mine) n None) (lt-ltb n v.setup.records (let e : v.setup.records ≡ setup.records = ap (λ (k : Setup). k.records) same in omega arith))
+            ∙ get_or-set_same v.own.mine n (Some (drawn_share v.setup.first)) None long,
       )
 
       -- the rule stays where one was left
-      draws_one : (own : Book) → own.caller ≡ c → IsSameBook v.own own → own.steps ≡ v.own.steps ++ draw_step v n ∷ [] → n < key.records → own.mine ≡ set v.own.mine n (Some (drawn_share key.first)) → own.drawing ≡ Unsure → Kept s id v own
-      draws_one own caller same steps lt mine_is drawing =
-          let there = at_below u.records n (let k = u.places.many in omega arith) in let r : Record = there.0 in let new : Record = drawn_record c key.first r in
+      draws_one : (own : Book) → own.caller ≡ c → IsSameBook v.own own → own.steps ≡ v.own.steps ++ draw_step v n ∷ [] → n < setup.records → own.mine ≡ set v.own.mine n (Some (drawn_share setup.first)) → own.drawing ≡ Unsure → own.moves ≡ drew_one v.own.moves → Kept s id v own
+      draws_one own caller same steps lt mine_is drawing moves =
+          let there = at_below u.records n (let k = u.places.many in omega arith) in let r : Record = there.0 in let new : Record = drawn_record c setup.first r in
           let untouched : r.place ≡ Undrawn = u.places.left n r there.1 (left_to m n (let e = found in omega arith)) in
           let weight : overshoot own ≡ overshoot v.own = ap overshoot_by drawing ∙ sym (ap overshoot_by below) in
-          rebuilt shape cover key s u id v at present (set s.words 0 (n + 1)) wide (set u.records n new) own (draw_step v n) caller same.answered same.guard steps
-          (subst (λ (x : Memory). Places key (set u.records n new) (set u.books c own) x) (sym stored)
+          rebuilt shape cover setup s u id v at present (set s.words 0 (n + 1)) wide (set u.records n new) own (draw_step v n) (not_held setup c (draw_step v n) refl (inr (refl, bump))) caller same.answered same.guard same.notes steps
+          (subst (λ (x : Memory). Places setup (set u.records n new) (set u.books c own) x) (sym stored)
           (drawn_places u.records u.books m c n v.own own r u.places mine there.1 found lt caller mine_is weight (λ h. let no : ⊥ = (let e : Unsure ≡ Past = sym drawing ∙ h in cc) in no)))
-          (subst (Parts shape cover key) (sym (outline_after m (memory key.callers key.records (set s.words 0 (n + 1))) u.removals u.updates (ap (λ (x : Memory). x.epoch) stored) (ap (λ (x : Memory). x.announced) stored) u.books c v.own own mine same u.records n r new there.1 record {
+          (subst (Parts shape cover setup) (sym (outline_after m (memory setup.callers setup.records (set s.words 0 (n + 1))) u.taken_out u.updates (ap (λ (x : Memory). x.epoch) stored) (ap (λ (x : Memory). x.announced) stored) u.books c v.own own mine same u.records n r new there.1 record {
             shape = sym (ap (λ (q : Place). shape_at q r) untouched);
             scheme = sym (ap (λ (q : Place). scheme_at q r) untouched);
-            name = ap unnamed (sym ((u.places.sound n r there.1).unborn untouched)) ∙ sym (ap (λ (q : Place). name_at q r) untouched);
+            taken = ap untaken (sym ((u.places.sound n r there.1).unborn untouched)) ∙ sym (ap (λ (q : Place). taken_at q r) untouched);
           })) u.parts)
+          (counts_moved setup.first u.records u.books c v.own own mine u.counts n r new there.1 (subst (λ (z : Moves). Balances setup.first v.own.moves z r new) (sym moves) (balances_drawn setup.first v.own.moves r new untouched refl refl ((u.places.sound n r there.1).unborn untouched))))
 
       -- and where none was
-      draws_none : (own : Book) → own.caller ≡ c → IsSameBook v.own own → own.steps ≡ v.own.steps ++ draw_step v n ∷ [] → key.records ≤ n → own.mine ≡ v.own.mine → own.drawing ≡ Past → Kept s id v own
-      draws_none own caller same steps past mine_is drawing =
-          rebuilt shape cover key s u id v at present (set s.words 0 (n + 1)) wide u.records own (draw_step v n) caller same.answered same.guard steps
-          (subst (λ (x : Memory). Places key u.records (set u.books c own) x) (sym stored)
+      draws_none : (own : Book) → own.caller ≡ c → IsSameBook v.own own → own.steps ≡ v.own.steps ++ draw_step v n ∷ [] → setup.records ≤ n → own.mine ≡ v.own.mine → own.drawing ≡ Past → own.moves ≡ v.own.moves → Kept s id v own
+      draws_none own caller same steps past mine_is drawing moves =
+          rebuilt shape cover setup s u id v at present (set s.words 0 (n + 1)) wide u.records own (draw_step v n) (not_held setup c (draw_step v n) refl (inr (refl, bump))) caller same.answered same.guard same.notes steps
+          (subst (λ (x : Memory). Places setup u.records (set u.books c own) x) (sym stored)
           (passed_places u.records u.books m c n v.own own u.places mine found past caller mine_is (ap overshoot_by drawing) (ap overshoot_by below)))
-          (subst (Parts shape cover key) (sym (outline_same m (memory key.callers key.records (set s.words 0 (n + 1))) u.removals u.updates (ap (λ (x : Memory). x.epoch) stored) (ap (λ (x : Memory). x.announced) stored) u.books c v.own own mine same u.records)) u.parts)
+          (subst (Parts shape cover setup) (sym (outline_same m (memory setup.callers setup.records (set s.words 0 (n + 1))) u.taken_out u.updates (ap (λ (x : Memory). x.epoch) stored) (ap (λ (x : Memory). x.announced) stored) u.books c v.own own mine same u.records)) u.parts)
+          (counts_calm setup.first u.records u.books c v.own own mine u.counts moves)
 
       -- no guard, note, lock or answered call changes
       same_book : IsSameBook v.own (drew v n).own
-      same_book = record { guard = refl; notes = refl; locks = refl; answered = refl }
+      same_book = record { guard = refl; notes = refl; roots = refl; locks = refl; answered = refl; offer = refl }
 
       -- so it stays
-      draws_by : (t : Bool) → ltb n key.records ≡ t → v.key ≡ key → Kept s id v (drew v n).own
-      draws_by true is same = draws_one (drew v n).own refl same_book refl (ltb-true n key.records is)
-          (ap (λ (k : Key). cond (ltb n k.records) (set v.own.mine n (Some (drawn_share k.first))) v.own.mine) same ∙ ap (λ b. cond b (set v.own.mine n (Some (drawn_share key.first))) v.own.mine) is)
-          (ap (λ (x : Drawing). drawing_after x v.key.records (draw_step v n)) below ∙ ap (λ (k : Key). cond (ltb n k.records) Unsure Past) same ∙ ap (λ b. cond b Unsure Past) is)
-      draws_by false is same = draws_none (drew v n).own refl same_book refl (ltb-false n key.records is)
-          (ap (λ (k : Key). cond (ltb n k.records) (set v.own.mine n (Some (drawn_share k.first))) v.own.mine) same ∙ ap (λ b. cond b (set v.own.mine n (Some (drawn_share key.first))) v.own.mine) is)
-          (ap (λ (x : Drawing). drawing_after x v.key.records (draw_step v n)) below ∙ ap (λ (k : Key). cond (ltb n k.records) Unsure Past) same ∙ ap (λ b. cond b Unsure Past) is)
+      draws_by : (t : Bool) → ltb n setup.records ≡ t → v.setup ≡ setup → Kept s id v (drew v n).own
+      draws_by true is same = draws_one (drew v n).own refl same_book refl (ltb-true n setup.records is)
+          (ap (λ (k : Setup). cond (ltb n k.records) (set v.own.mine n (Some (drawn_share k.first))) v.own.mine) same ∙ ap (λ b. cond b (set v.own.mine n (Some (drawn_share setup.first))) v.own.mine) is)
+          (ap (λ (x : Drawing). drawing_after x v.setup.records (draw_step v n)) below ∙ ap (λ (k : Setup). cond (ltb n k.records) Unsure Past) same ∙ ap (λ b. cond b Unsure Past) is)
+          (ap (λ (k : Setup). cond (ltb n k.records) (drew_one v.own.moves) v.own.moves) same ∙ ap (λ b. cond b (drew_one v.own.moves) v.own.moves) is)
+      draws_by false is same = draws_none (drew v n).own refl same_book refl (ltb-false n setup.records is)
+          (ap (λ (k : Setup). cond (ltb n k.records) (set v.own.mine n (Some (drawn_share k.first))) v.own.mine) same ∙ ap (λ b. cond b (set v.own.mine n (Some (drawn_share setup.first))) v.own.mine) is)
+          (ap (λ (x : Drawing). drawing_after x v.setup.records (draw_step v n)) below ∙ ap (λ (k : Setup). cond (ltb n k.records) Unsure Past) same ∙ ap (λ b. cond b Unsure Past) is)
+          (ap (λ (k : Setup). cond (ltb n k.records) (drew_one v.own.moves) v.own.moves) same ∙ ap (λ b. cond b (drew_one v.own.moves) v.own.moves) is)
 
     -- A caller whose last step found fewer records drawn than there are may add 1. Where one is left then, it is the caller's
-    pub draws : (slots id : ℕ) (me : Me (Unit {0}) View) → me.0.present ≡ true → me.0.own.drawing ≡ Below
-        → Allows (Rule shape cover key) slots id me 0 (λ n. (n + 1) % 2 ^ 64) (λ n w. (w ≡ (drew me.0 n, me.1)) × DrewNew me.0 n)
-    draws slots id me present below s u homes at _ = let n : ℕ = get_or s.words 0 0 in let v : View = me.0 in let same = (u.seated id v at).key_is present in (
-      drew v n,
-      keeps,
-      tt,
-      subst (λ (z : ℕ). Rule shape cover key record { words = set s.words 0 z; homes = s.homes; views = set s.views id (drew v n) }) (sym (whole u.records u.books (memory key.callers key.records s.words) n u.places (found s u id v at present below)))
-          (draws_by s u id v at present below (ltb n key.records) refl same),
-      (refl, λ lt. new_to s u id v at present below same (let e : v.key.records ≡ key.records = ap (λ (k : Key). k.records) same in omega arith)),
-    )
+    pub draws : (id : ℕ) (v : View) → v.present ≡ true → v.own.drawing ≡ Below
+        → Lawful (Rule shape cover setup) id v 0 (λ n. (n + 1) % 2 ^ 64) (λ n w. (w ≡ drew v n) × DrewNew v n × ((n + 1) % 2 ^ 64 ≡ n + 1))
+    draws id v present below s u at = let n : ℕ = get_or s.words 0 0 in let same = (u.seated id v at).setup_is present in
+        let one : (n + 1) % 2 ^ 64 ≡ n + 1 = whole u.records u.books (memory setup.callers setup.records s.words) n u.places (found s u id v at present below) in (
+          drew v n,
+          subst (λ (z : ℕ). Rule shape cover setup record { words = set s.words 0 z; homes = s.homes; views = set s.views id (drew v n) }) (sym one) (draws_by s u id v at present below (ltb n setup.records) refl same),
+          (refl, λ lt. new_to s u id v at present below same (let e : v.setup.records ≡ setup.records = ap (λ (k : Setup). k.records) same in omega arith), one),
+        )
 
     -- the same at a word that is the first one
-    pub draws_at : (slots id : ℕ) (me : Me (Unit {0}) View) (word : ℕ) → word ≡ 0 → me.0.present ≡ true → me.0.own.drawing ≡ Below
-        → Allows (Rule shape cover key) slots id me word (λ n. (n + 1) % 2 ^ 64) (λ n w. (w ≡ (drew me.0 n, me.1)) × DrewNew me.0 n)
-    draws_at slots id me word is present below = subst (λ (z : ℕ). Allows (Rule shape cover key) slots id me z (λ n. (n + 1) % 2 ^ 64) (λ n w. (w ≡ (drew me.0 n, me.1)) × DrewNew me.0 n)) (sym is) (draws slots id me present below)
+    pub draws_at : (id : ℕ) (v : View) (word : ℕ) → word ≡ 0 → v.present ≡ true → v.own.drawing ≡ Below
+        → Lawful (Rule shape cover setup) id v word (λ n. (n + 1) % 2 ^ 64) (λ n w. (w ≡ drew v n) × DrewNew v n × ((n + 1) % 2 ^ 64 ≡ n + 1))
+    draws_at id v word is present below = subst (λ (z : ℕ). Lawful (Rule shape cover setup) id v z (λ n. (n + 1) % 2 ^ 64) (λ n w. (w ≡ drew v n) × DrewNew v n × ((n + 1) % 2 ^ 64 ≡ n + 1))) (sym is) (draws id v present below)

@@ -10,7 +10,7 @@ use Rattle.atomic_table.proofs.Lists.{at_set, at_map}
 use Rattle.set_model.specs.declared.names.AllocatorName.{AllocatorName}
 use Rattle.set_model.specs.declared.names.AllocatorName.TheVariants.{Bump, Once}
 use Rattle.record_memory.specs.declared.steps.Word.TheVariants.{Field}
-use Rattle.record_memory.specs.declared.books.Key.{Key}
+use Rattle.record_memory.specs.declared.books.Setup.{Setup}
 use Rattle.record_memory.specs.declared.books.Book.{Book}
 use Rattle.record_memory.specs.declared.books.Standing.{Standing}
 use Rattle.record_memory.specs.declared.books.Standing.TheVariants.{Handing, Own, Spare, TakenOut, Limbo, Free, Spent}
@@ -18,9 +18,9 @@ use Rattle.record_memory.specs.declared.books.Place.{Place}
 use Rattle.record_memory.specs.declared.books.Place.TheVariants.{Undrawn, Root, Of}
 use Rattle.record_memory.specs.Memory.{Memory, put, row_at}
 use Rattle.record_memory.proofs.Stores.{take-set}
-use Rattle.row_words.specs.Packing.{own_in, number_in, IsPackedLink}
-use Rattle.record_rule.specs.Inputs.{hidden, out, shape_had, unlinked, removed, limbo, scheme_had, unnamed, name_had}
-use Rattle.record_rule.specs.Records.{Record, IsLinkField, IsSound, known, share, carried, carried_by}
+use Rattle.row_words.specs.Packing.{own_in, number_in}
+use Rattle.record_rule.specs.Inputs.{hidden, out, shape_had, unpublished, unretired, limbo, scheme_had, untaken, taken_had}
+use Rattle.record_rule.specs.Records.{Record, IsLinkField, IsSound, known, share, carried, carried_by, IsLinkIn}
 use Rattle.record_rule.specs.World.{IsLeftBy, IsLeft, overshoot, Places}
 use Rattle.record_rule.specs.Kinds.{MayStoreAs, EndsHanding, standing_after}
 use Rattle.record_rule.proofs.Lists.{get_at, each_set, got_set, map_set_same}
@@ -28,57 +28,60 @@ use Rattle.record_rule.proofs.Owned.{share_of, seen_by, unseen_by}
 use Rattle.record_rule.proofs.Quiet.{same_overshoot, books_after, past_before}
 
 -- the count of records drawn, and the cursors, say what they said
-pub left_same : (a : AllocatorName) (key : Key) (m m' : Memory) (i : ℕ) → m'.drawn ≡ m.drawn → m'.cursors ≡ m.cursors → IsLeftBy a key m i → IsLeftBy a key m' i
-left_same Bump key m m' i d c h = omega arith
-left_same Once key m m' i d c h = subst (λ (xs : List ℕ). IsLeftBy Once key record m { cursors = xs } i) (sym c) h
+pub left_same : (a : AllocatorName) (setup : Setup) (m m' : Memory) (i : ℕ) → m'.drawn ≡ m.drawn → m'.cursors ≡ m.cursors → IsLeftBy a setup m i → IsLeftBy a setup m' i
+left_same Bump setup m m' i d c h = omega arith
+left_same Once setup m m' i d c h = subst (λ (xs : List ℕ). IsLeftBy Once setup record m { cursors = xs } i) (sym c) h
 
 -- the record after its owner has stored a word of it
 abbrev pub with_word : ℕ → Standing → Record → ℕ → ℕ → Record
 with_word c s r f value = record r { place = Of c s; row = set r.row f value }
 
-module _ (key : Key) where
+module _ (setup : Setup) where
   -- what has to be so of a stored word, and of the standing afterwards
   pub record Stores (s t : Standing) (r : Record) (f value : ℕ) : Type 0 where
     pub below : f < 8
-    pub own : (g : ℕ) → g < 8 → g ≡ f → own_in value ≡ carried_by t r.era g
-    pub others : (g : ℕ) → g < 8 → g ≢ f → carried_by t r.era g ≡ carried_by s r.era g
-    pub link : IsLinkField f → IsPackedLink value
+    pub own : (g : ℕ) → g < 8 → g ≡ f → own_in value ≡ carried_by t r.generation g
+    pub others : (g : ℕ) → g < 8 → g ≢ f → carried_by t r.generation g ≡ carried_by s r.generation g
+    pub link : IsLinkField f → IsLinkIn f value
     pub unfinished : (n : ℕ) → t ≡ Handing n → n < 8
+    pub freed : t ≡ Free → s ≡ Free
 
   -- so the record is sound afterwards
-  sound_after : (i c : ℕ) (s t : Standing) (r : Record) (f value : ℕ) → r.place ≡ Of c s → IsSound key i r → Stores s t r f value → IsSound key i (with_word c t r f value)
+  sound_after : (i c : ℕ) (s t : Standing) (r : Record) (f value : ℕ) → r.place ≡ Of c s → IsSound setup i r → Stores s t r f value → IsSound setup i (with_word c t r f value)
   sound_after i c s t r f value at sound st = record {
     eight = length-set r.row f value ∙ sound.eight;
-    generations = λ g h. got_set (λ (n : ℕ). own_in n ≡ carried_by t r.era g) r.row f g value 0 (let l = sound.eight in let k = st.below in omega arith) (λ e. st.own g h e) (λ ne. sound.generations g h ∙ ap (λ (p : Place). carried p r.era g) at ∙ sym (st.others g h ne));
-    links = λ g is. got_set IsPackedLink r.row f g value 0 (let l = sound.eight in let k = st.below in omega arith) (λ e. st.link (subst IsLinkField e is)) (λ ne. sound.links g is);
+    generations = λ g h. got_set (λ (n : ℕ). own_in n ≡ carried_by t r.generation g) r.row f g value 0 (let l = sound.eight in let k = st.below in omega arith) (λ e. st.own g h e) (λ ne. sound.generations g h ∙ ap (λ (p : Place). carried p r.generation g) at ∙ sym (st.others g h ne));
+    links = λ g is. got_set (IsLinkIn g) r.row f g value 0 (let l = sound.eight in let k = st.below in omega arith) (λ e. subst (λ (z : ℕ). IsLinkIn z value) (sym e) (st.link (subst IsLinkField e is))) (λ ne. sound.links g is);
     within = sound.within;
     roots = λ h. let none : ⊥ = (let e : Of c s ≡ Root = sym at ∙ sound.roots h in cc) in absurd none;
     no_root = λ e. let none : ⊥ = cc in absurd none;
-    root_era = λ e. let none : ⊥ = cc in absurd none;
+    unshelved = λ k e. let none : ⊥ = cc in none;
+    root_generation = λ e. let none : ⊥ = cc in absurd none;
     unborn = λ e. let none : ⊥ = cc in absurd none;
     blank = λ e. let none : ⊥ = cc in absurd none;
     born = λ _. sound.born (λ e. let none : ⊥ = (let k : Of c s ≡ Undrawn = sym at ∙ e in cc) in none);
     unfinished = λ d n e. st.unfinished n (let z : t ≡ Handing n = cc in z);
     callers = λ d w e. sound.callers d s (at ∙ (let z : c ≡ d = cc in ap (λ (k : ℕ). Of k s) z));
+    renewable = λ d e. let is_free : t ≡ Free = cc in sound.renewable c (at ∙ ap (Of c) (st.freed is_free));
   }
 
   -- after the owner's store of word f of record i, which lies at p
-  pub owner_places : (records : List Record) (books : List Book) (m : Memory) (c i f value : ℕ) (s t : Standing) (b own : Book) (r : Record) → Places key records books m → get_elem? books c ≡ some b
+  pub owner_places : (records : List Record) (books : List Book) (m : Memory) (c i f value : ℕ) (s t : Standing) (b own : Book) (r : Record) → Places setup records books m → get_elem? books c ≡ some b
       → get_elem? records (i - 1) ≡ some r → r.place ≡ Of c s → Stores s t r f value → own.caller ≡ b.caller → own.mine ≡ set b.mine (i - 1) (Some (share_of t (with_word c t r f value))) → overshoot own ≡ overshoot b
-      → Places key (set records (i - 1) (with_word c t r f value)) (set books c own) (put m (Field i f) value)
+      → Places setup (set records (i - 1) (with_word c t r f value)) (set books c own) (put m (Field i f) value)
   owner_places records books m c i f value s t b own r p at there is st caller mine weight =
       let new : Record = with_word c t r f value in let k : ℕ = i - 1 in let book = p.books_fit c b at in let m' : Memory = put m (Field i f) value in
       let row : row_at m.rows i ≡ r.row = ap (λ (rs : List (List ℕ)). get_or rs k []) (sym p.rows) ∙ get_at (map (λ (x : Record). x.row) records) k r.row [] (at_map (λ (x : Record). x.row) records k r there) in record {
         many = length-set records k new ∙ p.many;
         rows = map-set (λ (x : Record). x.row) records k new ∙ (λ z. set (p.rows z) k (set (sym row z) f value));
-        sound = each_set (IsSound key) records k new p.sound (sound_after k c s t r f value is (p.sound k r there) st);
-        left = λ j x e l. ⊎_elim (λ q. let none : ⊥ = (let u : r.place ≡ Undrawn = p.left k r there (subst (IsLeft key m) q.0 (left_same key.allocator key m' m j refl refl l)) in let o : Of c s ≡ Undrawn = sym is ∙ u in cc) in absurd none)
-            (λ q. p.left j x q.1 (left_same key.allocator key m' m j refl refl l)) (at_set records k j new x e);
-        undrawn = λ j x e u. left_same key.allocator key m m' j refl refl (⊎_elim (λ q. let none : ⊥ = (let o : Of c t ≡ Undrawn = ap (λ (y : Record). y.place) q.1 ∙ u in cc) in absurd none) (λ q. p.undrawn j x q.1 u) (at_set records k j new x e));
-        drawn = subst (λ (z : ℕ). m.drawn ≤ key.records + z) (sym (same_overshoot books c b own at weight)) p.drawn;
-        blank = p.blank;
+        sound = each_set (IsSound setup) records k new p.sound (sound_after k c s t r f value is (p.sound k r there) st);
+        left = λ j x e l. ⊎_elim (λ q. let none : ⊥ = (let u : r.place ≡ Undrawn = p.left k r there (subst (IsLeft setup m) q.0 (left_same setup.allocator setup m' m j refl refl l)) in let o : Of c s ≡ Undrawn = sym is ∙ u in cc) in absurd none)
+            (λ q. p.left j x q.1 (left_same setup.allocator setup m' m j refl refl l)) (at_set records k j new x e);
+        undrawn = λ j x e u. left_same setup.allocator setup m m' j refl refl (⊎_elim (λ q. let none : ⊥ = (let o : Of c t ≡ Undrawn = ap (λ (y : Record). y.place) q.1 ∙ u in cc) in absurd none) (λ q. p.undrawn j x q.1 u) (at_set records k j new x e));
+        drawn = subst (λ (z : ℕ). m.drawn ≤ setup.records + z) (sym (same_overshoot books c b own at weight)) p.drawn;
+        untouched = p.untouched;
         callers = length-set books c own ∙ p.callers;
-        books_fit = books_after key m m' records (set records k new) books c own (λ h. h)
+        books_fit = books_after setup m m' records (set records k new) books c own (λ h. h)
             (λ d ne. map_set_same (share d) records k r new there (unseen_by c d t new refl ne ∙ sym (unseen_by c d s r is ne)))
             record {
               number = caller ∙ book.number;
@@ -95,37 +98,40 @@ cond_below g n a b h = ap (λ (t : Bool). cond t a b) (lt-ltb g n h)
 cond_above : (g n a b : ℕ) → n ≤ g → cond (ltb g n) a b ≡ b
 cond_above g n a b h = ap (λ (t : Bool). cond t a b) (le-ltb g n h)
 
-module _ (key : Key) (r : Record) (f value : ℕ) (below : f < 8) (own : own_in value ≡ r.era) (link : IsLinkField f → IsPackedLink value) where
+module _ (setup : Setup) (r : Record) (f value : ℕ) (below : f < 8) (own : own_in value ≡ r.generation) (link : IsLinkField f → IsLinkIn f value) where
   -- a step that leaves the standing, where all eight words carry the generation
-  stores_whole : (s : Standing) → ((g : ℕ) → carried_by s r.era g ≡ r.era) → ((n : ℕ) → s ≡ Handing n → ⊥) → Stores key s s r f value
+  stores_whole : (s : Standing) → ((g : ℕ) → carried_by s r.generation g ≡ r.generation) → ((n : ℕ) → s ≡ Handing n → ⊥) → Stores setup s s r f value
   stores_whole s whole none = record {
     below = below;
     own = λ g h e. own ∙ sym (whole g);
     others = λ g h ne. refl;
     link = link;
     unfinished = λ n e. absurd (none n e);
+    freed = λ e. e;
   }
 
   -- a store of a handing out
-  stores_handing : (n : ℕ) (t : Bool) → eqb n 7 ≡ t → f ≡ n → Stores key (Handing n) (cond t Own (Handing (n + 1))) r f value
+  stores_handing : (n : ℕ) (t : Bool) → eqb n 7 ≡ t → f ≡ n → Stores setup (Handing n) (cond t Own (Handing (n + 1))) r f value
   stores_handing n true is e = let seven = eqb-true n 7 is in record {
     below = below;
     own = λ g h _. own;
-    others = λ g h ne. sym (cond_below g n r.era (r.era - 1) (omega arith));
+    others = λ g h ne. sym (cond_below g n r.generation (r.generation - 1) (omega arith));
     link = link;
     unfinished = λ k q. let none : ⊥ = cc in absurd none;
+    freed = λ q. let none : ⊥ = cc in absurd none;
   }
   stores_handing n false is e = let not_seven = eqb-false n 7 is in record {
     below = below;
-    own = λ g h q. own ∙ sym (cond_below g (n + 1) r.era (r.era - 1) (omega arith));
-    others = λ g h ne. dite (dec_le n g) (λ le. cond_above g (n + 1) r.era (r.era - 1) (omega arith) ∙ sym (cond_above g n r.era (r.era - 1) le))
-        (λ lt. cond_below g (n + 1) r.era (r.era - 1) (omega arith) ∙ sym (cond_below g n r.era (r.era - 1) (omega arith)));
+    own = λ g h q. own ∙ sym (cond_below g (n + 1) r.generation (r.generation - 1) (omega arith));
+    others = λ g h ne. dite (dec_le n g) (λ le. cond_above g (n + 1) r.generation (r.generation - 1) (omega arith) ∙ sym (cond_above g n r.generation (r.generation - 1) le))
+        (λ lt. cond_below g (n + 1) r.generation (r.generation - 1) (omega arith) ∙ sym (cond_below g n r.generation (r.generation - 1) (omega arith)));
     link = link;
     unfinished = λ k q. let z : n + 1 ≡ k = cc in omega arith;
+    freed = λ q. let none : ⊥ = cc in absurd none;
   }
 
   -- each store that an owner may make
-  pub stores_as : (s : Standing) → MayStoreAs s f → Stores key s (standing_after s) r f value
+  pub stores_as : (s : Standing) → MayStoreAs s f → Stores setup s (standing_after s) r f value
   stores_as (Handing n) h = stores_handing n (eqb n 7) refl h
   stores_as Own h = stores_whole Own (λ g. refl) (λ n e. cc)
   stores_as Spare h = stores_whole Spare (λ g. refl) (λ n e. cc)
@@ -159,19 +165,19 @@ hidden_handing n false r = refl
 -- wherever the record is
 pub shape_unmoved : (c : ℕ) (s : Standing) (r : Record) (f value : ℕ) → MayStoreAs s f → shape_had (standing_after s) (with_word c (standing_after s) r f value) ≡ shape_had s r
 shape_unmoved c (Handing n) r f value h = hidden_handing n (eqb n 7) (with_word c (cond (eqb n 7) Own (Handing (n + 1))) r f value)
-shape_unmoved c TakenOut r f value h = ap (λ (b : List ℕ). out r.era b r.marked r.removed) (drop-set-lt 3 r.row f value (omega arith))
-shape_unmoved c Limbo r f value h = ap (λ (b : List ℕ). out r.era b r.marked r.removed) (drop-set-lt 3 r.row f value (omega arith))
+shape_unmoved c TakenOut r f value h = ap (λ (b : List ℕ). out r.generation b r.marked r.taken_number) (drop-set-lt 3 r.row f value (omega arith))
+shape_unmoved c Limbo r f value h = ap (λ (b : List ℕ). out r.generation b r.marked r.taken_number) (drop-set-lt 3 r.row f value (omega arith))
 shape_unmoved c s r f value h = refl
 
 -- nor does the list of those taken out
-unnamed_handing : (n : ℕ) (t : Bool) (r : Record) → name_had (cond t Own (Handing (n + 1))) r ≡ unnamed r.era
-unnamed_handing n true r = refl
-unnamed_handing n false r = refl
+untaken_handing : (n : ℕ) (t : Bool) (r : Record) → taken_had (cond t Own (Handing (n + 1))) r ≡ untaken r.generation
+untaken_handing n true r = refl
+untaken_handing n false r = refl
 
 -- wherever the record is
-pub name_unmoved : (c : ℕ) (s : Standing) (r : Record) (f value : ℕ) → MayStoreAs s f → name_had (standing_after s) (with_word c (standing_after s) r f value) ≡ name_had s r
-name_unmoved c (Handing n) r f value h = unnamed_handing n (eqb n 7) (with_word c (cond (eqb n 7) Own (Handing (n + 1))) r f value)
-name_unmoved c s r f value h = refl
+pub taken_unmoved : (c : ℕ) (s : Standing) (r : Record) (f value : ℕ) → MayStoreAs s f → taken_had (standing_after s) (with_word c (standing_after s) r f value) ≡ taken_had s r
+taken_unmoved c (Handing n) r f value h = untaken_handing n (eqb n 7) (with_word c (cond (eqb n 7) Own (Handing (n + 1))) r f value)
+taken_unmoved c s r f value h = refl
 
 -- nor do the reclaimer's facts, but for the step that ends a handing out
 pub ends : (s : Standing) → Dec (EndsHanding s)
@@ -189,9 +195,9 @@ own_field f h e = ⊎_elim (λ q. omega arith) (λ q. omega arith) h
 -- where no handing out ends
 pub scheme_unmoved : (c : ℕ) (s : Standing) (r : Record) (f value : ℕ) → MayStoreAs s f → ¬ EndsHanding s → scheme_had c (standing_after s) (with_word c (standing_after s) r f value) ≡ scheme_had c s r
 scheme_unmoved c (Handing n) r f value h more = ap (λ (t : Bool). scheme_had c (cond t Own (Handing (n + 1))) (with_word c (cond t Own (Handing (n + 1))) r f value)) (ne_eqb n 7 more)
-scheme_unmoved c Own r f value h more = ap (unlinked c r.era) (number_stays r 0 f value (own_field f h))
-scheme_unmoved c Spare r f value h more = ap (unlinked c r.era) (number_stays r 0 f value (λ e. omega arith))
-scheme_unmoved c TakenOut r f value h more = ap (λ (b : ℕ). removed c r.era b r.removed) (number_stays r 0 f value (λ e. omega arith))
-scheme_unmoved c Limbo r f value h more = λ k. limbo c r.era (number_stays r 0 f value (λ e. omega arith) k) r.removed (number_stays r 2 f value (λ e. omega arith) k) r.retired
+scheme_unmoved c Own r f value h more = ap (unpublished c r.generation) (number_stays r 0 f value (own_field f h))
+scheme_unmoved c Spare r f value h more = ap (unpublished c r.generation) (number_stays r 0 f value (λ e. omega arith))
+scheme_unmoved c TakenOut r f value h more = ap (λ (b : ℕ). unretired c r.generation b r.taken_number) (number_stays r 0 f value (λ e. omega arith))
+scheme_unmoved c Limbo r f value h more = λ k. limbo c r.generation (number_stays r 0 f value (λ e. omega arith) k) r.taken_number (number_stays r 2 f value (λ e. omega arith) k) r.retired
 scheme_unmoved c Free r f value h more = refl
 scheme_unmoved c Spent r f value h more = refl

@@ -2,19 +2,19 @@
 use Rattle.std.proofs.Common.{inr, ⊎_elim, ◌≡◌, ℕ, zero, suc, ◌+◌, ◌-◌, ◌<◌, ◌≤◌, ◌^◌, List, [], ◌∷◌, ◌++◌, length, get_or, take, set, length-set, cond, sym, refl, ap, ◌∙◌, subst, arith, Option, Some, None, get_or-set_same, get_or-set_other}
 use Rattle.std.proofs.lemmas.List.{set-set, take_more_set, take_more, take_all, get_or-replicate}
 use Rattle.std.proofs.lemmas.Bool.{ne_eqb}
-use Rattle.record_memory.specs.declared.books.Key.{Key}
+use Rattle.record_memory.specs.declared.books.Setup.{Setup}
 use Rattle.record_memory.specs.declared.books.View.{View}
 use Rattle.record_memory.specs.declared.books.Guard.{Guard}
 use Rattle.record_memory.specs.declared.books.Share.{Share}
 use Rattle.record_memory.specs.declared.books.Standing.{Standing}
 use Rattle.record_memory.specs.declared.books.Standing.TheVariants.{Handing, Own}
 use Rattle.row_words.specs.Refs.{RefParts}
-use Rattle.row_words.specs.Packing.{own_in, number_in, packed_number, packed_link, IsPackedRef, IsPackedLink}
+use Rattle.row_words.specs.Packing.{own_in, number_in, packed_number, packed_link, IsPackedRef, IsPackedLink, link_in}
 use Rattle.row_words.proofs.Packed.{own_in-packed_number, number_in-packed_number}
 use Rattle.record_rule.specs.Kinds.{stored, stored_as, share_in, share_after, standing_after, MayStoreAs, MayStore}
 use Rattle.record_rule.proofs.Lists.{below_at}
 use Rattle.record_rule.proofs.Owned.{at_some}
-use Rattle.record_rule.proofs.OpeningWords.{packed_zero}
+use Rattle.record_rule.proofs.OpeningWords.{packed_zero, zero_flags}
 use Rattle.record_rule.specs.HandingOut.{fresh_row, HasDrawn, stores_from, handed_out, HasOwn}
 
 -- a share that is known is within the list
@@ -49,18 +49,18 @@ module _ (v : View) (i : ℕ) (row : List ℕ) (h : Share) (known : share_in v i
   share_known (suc n) = (both_then (suc n) (omega arith)).0
 
 -- a store leaves all of a view but what it says of its own caller
-pub same_view : (v : View) (i f n : ℕ) (h : Share) → share_in v i ≡ Some h → (((stored v i f n).key ≡ v.key) × ((stored v i f n).present ≡ v.present) × ((stored v i f n).own.caller ≡ v.own.caller) × ((stored v i f n).others ≡ v.others))
-same_view v i f n h known = let e : stored v i f n ≡ stored_as v i f n (Some h) = ap (stored_as v i f n) known in (ap (λ (w : View). w.key) e, ap (λ (w : View). w.present) e, ap (λ (w : View). w.own.caller) e, ap (λ (w : View). w.others) e)
+pub same_view : (v : View) (i f n : ℕ) (h : Share) → share_in v i ≡ Some h → (((stored v i f n).setup ≡ v.setup) × ((stored v i f n).present ≡ v.present) × ((stored v i f n).own.caller ≡ v.own.caller) × ((stored v i f n).others ≡ v.others))
+same_view v i f n h known = let e : stored v i f n ≡ stored_as v i f n (Some h) = ap (stored_as v i f n) known in (ap (λ (w : View). w.setup) e, ap (λ (w : View). w.present) e, ap (λ (w : View). w.own.caller) e, ap (λ (w : View). w.others) e)
 
--- the key stays
-pub key_then : (v : View) (i : ℕ) (row : List ℕ) (h : Share) (known : share_in v i ≡ Some h) (n : ℕ) → (stores_from v i row n).key ≡ v.key
-key_then v i row h known zero = refl
-key_then v i row h known (suc n) = (same_view (stores_from v i row n) i n (get_or row n 0) (share_then h row n) (share_known v i row h known n)).0 ∙ key_then v i row h known n
+-- the setup stays
+pub setup_then : (v : View) (i : ℕ) (row : List ℕ) (h : Share) (known : share_in v i ≡ Some h) (n : ℕ) → (stores_from v i row n).setup ≡ v.setup
+setup_then v i row h known zero = refl
+setup_then v i row h known (suc n) = (same_view (stores_from v i row n) i n (get_or row n 0) (share_then h row n) (share_known v i row h known n)).0 ∙ setup_then v i row h known n
 
 -- what each store leaves of the share
-pub era_then : (h : Share) (row : List ℕ) (n : ℕ) → (share_then h row n).era ≡ h.era
-era_then h row zero = refl
-era_then h row (suc n) = era_then h row n
+pub generation_then : (h : Share) (row : List ℕ) (n : ℕ) → (share_then h row n).generation ≡ h.generation
+generation_then h row zero = refl
+generation_then h row (suc n) = generation_then h row n
 
 -- the standing counts the stores
 pub standing_then : (h : Share) (row : List ℕ) (n : ℕ) → h.standing ≡ Handing 0 → n < 8 → (share_then h row n).standing ≡ Handing n
@@ -94,33 +94,34 @@ first_word h row (suc zero) pos some = get_or-set_same h.words 0 (get_or row 0 0
 first_word h row (suc (suc n)) pos some = get_or-set_other (share_then h row (suc n)).words (suc n) 0 (get_or row (suc n) 0) 0 (λ e. omega arith) ∙ first_word h row (suc n) (omega arith) some
 
 -- the stored words are what a handing out may store
-pub fresh_word : (era birth n : ℕ) → birth < 2 ^ 44 → n < 8 → own_in (get_or (fresh_row era birth) n 0) ≡ era
-fresh_word era birth zero b lt = own_in-packed_number era birth b
-fresh_word era birth (suc n) b lt = ap own_in (get_or-replicate 7 n (packed_number era 0) 0 (omega arith)) ∙ own_in-packed_number era 0 (omega arith)
+pub fresh_word : (generation birth n : ℕ) → birth < 2 ^ 44 → n < 8 → own_in (get_or (fresh_row generation birth) n 0) ≡ generation
+fresh_word generation birth zero b lt = own_in-packed_number generation birth b
+fresh_word generation birth (suc n) b lt = ap own_in (get_or-replicate 7 n (packed_number generation 0) 0 (omega arith)) ∙ own_in-packed_number generation 0 (omega arith)
 
 -- the words behind the first are number 0
-pub later_word : (era birth n : ℕ) → 0 < n → n < 8 → get_or (fresh_row era birth) n 0 ≡ packed_number era 0
-later_word era birth zero pos lt = absurd (omega arith)
-later_word era birth (suc n) pos lt = get_or-replicate 7 n (packed_number era 0) 0 (omega arith)
+pub later_word : (generation birth n : ℕ) → 0 < n → n < 8 → get_or (fresh_row generation birth) n 0 ≡ packed_number generation 0
+later_word generation birth zero pos lt = absurd (omega arith)
+later_word generation birth (suc n) pos lt = get_or-replicate 7 n (packed_number generation 0) 0 (omega arith)
 
 -- so each may be stored in its turn
 pub may_store_fresh : (v : View) (r : RefParts) (birth n : ℕ) (d : HasDrawn v r) → birth < 2 ^ 44 → n < 8 → MayStore (share_then d.share (fresh_row r.generation birth) n) n (get_or (fresh_row r.generation birth) n 0)
 may_store_fresh v r birth n d b lt = let row = fresh_row r.generation birth in record {
   field = subst (λ (s : Standing). MayStoreAs s n) (sym (standing_then d.share row n d.fresh lt)) refl;
   below = lt;
-  own = fresh_word r.generation birth n b lt ∙ sym d.era ∙ sym (era_then d.share row n);
-  link = λ is. subst IsPackedLink (sym (later_word r.generation birth n (⊎_elim (λ e. omega arith) (λ e. omega arith) is) lt)) (packed_zero r.generation);
+  own = fresh_word r.generation birth n b lt ∙ sym d.generation ∙ sym (generation_then d.share row n);
+  link = λ is. let zero_is = later_word r.generation birth n (⊎_elim (λ e. omega arith) (λ e. omega arith) is) lt in
+      (subst IsPackedLink (sym zero_is) (packed_zero r.generation), λ _. ap (λ (z : ℕ). (link_in z).flags) zero_is ∙ zero_flags r.generation);
 }
 
 -- once all are stored, the record is the caller's own
 pub has_own : (v : View) (r : RefParts) (birth : ℕ) → HasDrawn v r → HasOwn (handed_out v r birth) r (fresh_row r.generation birth)
 unfolding handed_out
 has_own v r birth d = let row = fresh_row r.generation birth in record {
-  within = subst (λ (k : Key). r.index ≤ k.records) (sym (key_then v r.index row d.share d.known 8)) d.within;
+  within = subst (λ (k : Setup). r.index ≤ k.records) (sym (setup_then v r.index row d.share d.known 8)) d.within;
   share = share_then d.share row 8;
   known = share_known v r.index row d.share d.known 8;
   standing_is = standing_last d.share row d.fresh;
-  era = era_then d.share row 8 ∙ d.era;
+  generation = generation_then d.share row 8 ∙ d.generation;
   row_is = words_last d.share row refl d.eight;
   eight = refl;
 }
@@ -158,11 +159,11 @@ all_stored v w r birth n last is = is ∙ ap (stores_from v r.index (fresh_row r
 -- an own record stays own when its owner stores in it
 pub own_after : (v : View) (r : RefParts) (row : List ℕ) (f value : ℕ) → HasOwn v r row → HasOwn (stored v r.index f value) r (set row f value)
 own_after v r row f value h = let i : ℕ = r.index in let after : Share = share_after h.share f value in let e : stored v i f value ≡ stored_as v i f value (Some h.share) = ap (stored_as v i f value) h.known in record {
-  within = subst (λ (w : View). i ≤ w.key.records) (sym e) h.within;
+  within = subst (λ (w : View). i ≤ w.setup.records) (sym e) h.within;
   share = after;
   known = ap (λ (w : View). share_in w i) e ∙ get_or-set_same v.own.mine (i - 1) (Some after) None (known_within v.own.mine (i - 1) h.share h.known);
   standing_is = ap standing_after h.standing_is;
-  era = h.era;
+  generation = h.generation;
   row_is = ap (λ l. set l f value) h.row_is;
   eight = length-set row f value ∙ h.eight;
 }
@@ -180,7 +181,7 @@ may_store_own v r row f value payload h low high fits packed is = (
   record {
     field = subst (λ (s : Standing). MayStoreAs s f) (sym h.standing_is) (inr (low, high));
     below = high;
-    own = ap own_in is ∙ own_in-packed_number r.generation payload fits ∙ sym h.era;
-    link = λ field. ⊎_elim (λ one. absurd (omega arith)) (λ three. subst IsPackedLink (sym is) (packed_number_link r.generation payload (packed three))) field;
+    own = ap own_in is ∙ own_in-packed_number r.generation payload fits ∙ sym h.generation;
+    link = λ field. (⊎_elim (λ one. absurd (omega arith)) (λ three. subst IsPackedLink (sym is) (packed_number_link r.generation payload (packed three))) field, λ one. absurd (omega arith));
   },
 )

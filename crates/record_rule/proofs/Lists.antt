@@ -85,6 +85,10 @@ module _ {A B : Type 0} where
 one_more : (x y a b : ℕ) → x + a ≡ y + b → a ≡ 0 → b ≡ 1 → x ≡ y + 1
 one_more x y a b e f g = omega arith
 
+-- two sums of one number
+same_sum : (x y a b : ℕ) → x + a ≡ y + b → b ≡ a → x ≡ y
+same_sum x y a b e f = omega arith
+
 -- one more entry counts, or one less
 pub counts_more : {A : Type 0} (p : A → Bool) (l : List A) (i : ℕ) (x d : A) → i < length l → p (get_or l i d) ≡ false → p x ≡ true → count_by p (set l i x) ≡ count_by p l + 1
 counts_more p l i x d lt was is = one_more _ _ _ _ (sum_by-set (λ y. cond (p y) 1 0) l i x d lt) (ap (λ b. cond b 1 0) was) (ap (λ b. cond b 1 0) is)
@@ -92,3 +96,7 @@ counts_more p l i x d lt was is = one_more _ _ _ _ (sum_by-set (λ y. cond (p y)
 -- one entry less
 pub counts_less : {A : Type 0} (p : A → Bool) (l : List A) (i : ℕ) (x d : A) → i < length l → p (get_or l i d) ≡ true → p x ≡ false → count_by p (set l i x) + 1 ≡ count_by p l
 counts_less p l i x d lt was is = sym (one_more _ _ _ _ (sym (sum_by-set (λ y. cond (p y) 1 0) l i x d lt)) (ap (λ b. cond b 1 0) is) (ap (λ b. cond b 1 0) was))
+
+-- as many count, where the entry counts as before
+pub counts_same : {A : Type 0} (p : A → Bool) (l : List A) (i : ℕ) (x d : A) → i < length l → p x ≡ p (get_or l i d) → count_by p (set l i x) ≡ count_by p l
+counts_same p l i x d lt is = let e = sum_by-set (λ y. cond (p y) 1 0) l i x d lt in let w : cond (p x) 1 0 ≡ cond (p (get_or l i d)) 1 0 = ap (λ b. cond b 1 0) is in same_sum _ _ _ _ e w

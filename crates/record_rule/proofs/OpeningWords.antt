@@ -1,4 +1,5 @@
 -- The words, the records and the books of the table as it is made.
+use Rattle.row_words.specs.Refs.{LinkParts}
 use Rattle.std.proofs.Common.{◌≡◌, ℕ, zero, suc, ◌+◌, ◌-◌, ◌*◌, ◌/◌, ◌<◌, ◌≤◌, List, ◌∷◌, ◌++◌, map, length, get_or, take, drop, replicate, length-append, sym, refl, ap, ◌∙◌, arith, ⊎_elim, None, subst}
 use Rattle.std.proofs.lemmas.List.{append_assoc, map-append, length-replicate, length-take, take_at, drop_at, get_or_append_left, get_or-replicate, get_or-take, get_or-drop, get_or_past, replicate-append-replicate}
 use mathlib.Core.Logic.{dite}
@@ -8,16 +9,16 @@ use mathlib.Core.Option.{some, some-injective, some-ne-none}
 use lib.ListN.{get_elem?}
 use Rattle.set_model.specs.declared.names.AllocatorName.{AllocatorName}
 use Rattle.set_model.specs.declared.names.AllocatorName.TheVariants.{Bump, Once}
-use Rattle.record_memory.specs.declared.books.Key.{Key}
+use Rattle.record_memory.specs.declared.books.Setup.{Setup}
 use Rattle.record_memory.specs.declared.books.Book.{Book}
 use Rattle.record_memory.specs.Memory.{memory, size, controls, rows_in, stretch}
-use Rattle.record_rule.specs.Records.{Record, share, blank_row, IsKey, IsSound}
+use Rattle.record_rule.specs.Records.{Record, share, blank_row, IsSetup, IsSound}
 use Rattle.record_memory.specs.declared.books.Guard.{Guard}
 use Rattle.record_rule.specs.World.{IsLeftBy, range}
 use Rattle.record_rule.specs.Opening.{root_row, rows_of, opening_controls, opening_words, first_book, first_books, root_record, blank_record, opening_records}
 use Rattle.record_rule.proofs.Lists.{map-replicate}
-use Rattle.row_words.specs.Packing.{own_in, packed_number, packed_link, packed_ref, IsPackedLink}
-use Rattle.row_words.proofs.Packed.{own_in-packed_key, own_in-packed_number, is_packed_link}
+use Rattle.row_words.specs.Packing.{own_in, packed_number, packed_link, packed_ref, IsPackedLink, link_in}
+use Rattle.row_words.proofs.Packed.{own_in-packed_key, own_in-packed_number, is_packed_link, link_in-packed_link}
 
 -- so many rows are eight times as many words
 length-rows_of : (n : ℕ) (row : List ℕ) → length row ≡ 8 → length (rows_of n row) ≡ 8 * n
@@ -38,90 +39,90 @@ no_more : (k : ℕ) (row : List ℕ) → length row ≡ 8 → rows_in k (rows_of
 no_more zero row h = refl
 no_more (suc k) row h = (λ i. take_at row (rows_of k row) 8 h i ∷ rows_in k (drop_at row (rows_of k row) 8 h i)) ∙ ap (λ (z : List (List ℕ)). row ∷ z) (no_more k row h)
 
-module _ (key : Key) (first : Guard) where
+module _ (setup : Setup) (first : Guard) where
   -- the books are those of the callers in order
-  pub at_books : (c n p : ℕ) (b : Book) → get_elem? (first_books key first c n) p ≡ some b → (p < n) × (first_book key first (c + p) ≡ b)
+  pub at_books : (c n p : ℕ) (b : Book) → get_elem? (first_books setup first c n) p ≡ some b → (p < n) × (first_book setup first (c + p) ≡ b)
   at_books c zero p b e = absurd (some-ne-none b (sym e))
-  at_books c (suc n) zero b e = (omega arith, ap (first_book key first) (let z : c + 0 ≡ c = omega arith in z) ∙ some-injective (first_book key first c) b e)
-  at_books c (suc n) (suc p) b e = let h = at_books (c + 1) n p b e in (omega (arith, h.0), ap (first_book key first) (let z : c + suc p ≡ c + 1 + p = omega arith in z) ∙ h.1)
+  at_books c (suc n) zero b e = (omega arith, ap (first_book setup first) (let z : c + 0 ≡ c = omega arith in z) ∙ some-injective (first_book setup first c) b e)
+  at_books c (suc n) (suc p) b e = let h = at_books (c + 1) n p b e in (omega (arith, h.0), ap (first_book setup first) (let z : c + suc p ≡ c + 1 + p = omega arith in z) ∙ h.1)
 
   -- and each caller has one
-  pub books_at : (c n p : ℕ) → p < n → get_elem? (first_books key first c n) p ≡ some (first_book key first (c + p))
+  pub books_at : (c n p : ℕ) → p < n → get_elem? (first_books setup first c n) p ≡ some (first_book setup first (c + p))
   books_at c zero p h = absurd (omega arith)
-  books_at c (suc n) zero h = ap (λ (z : ℕ). some (first_book key first z)) (let z : c ≡ c + 0 = omega arith in z)
-  books_at c (suc n) (suc p) h = books_at (c + 1) n p (omega arith) ∙ ap (λ (z : ℕ). some (first_book key first z)) (let z : c + 1 + p ≡ c + suc p = omega arith in z)
+  books_at c (suc n) zero h = ap (λ (z : ℕ). some (first_book setup first z)) (let z : c ≡ c + 0 = omega arith in z)
+  books_at c (suc n) (suc p) h = books_at (c + 1) n p (omega arith) ∙ ap (λ (z : ℕ). some (first_book setup first z)) (let z : c + 1 + p ≡ c + suc p = omega arith in z)
 
   -- there are so many
-  pub length-books : (c n : ℕ) → length (first_books key first c n) ≡ n
+  pub length-books : (c n : ℕ) → length (first_books setup first c n) ≡ n
   length-books c zero = refl
   length-books c (suc n) = ap suc (length-books (c + 1) n)
 
   -- what all have in common
-  pub map_books : {A : Type 0} (f : Book → A) (a : A) → ((c : ℕ) → f (first_book key first c) ≡ a) → (c n : ℕ) → map f (first_books key first c n) ≡ replicate n a
+  pub map_books : {A : Type 0} (f : Book → A) (a : A) → ((c : ℕ) → f (first_book setup first c) ≡ a) → (c n : ℕ) → map f (first_books setup first c n) ≡ replicate n a
   map_books f a each c zero = refl
   map_books f a each c (suc n) = λ k. each c k ∷ map_books f a each (c + 1) n k
 
-module _ (key : Key) where
+module _ (setup : Setup) where
   -- the words behind the control words
   abbrev pub rest : List ℕ
-  rest = rows_of key.roots (root_row key.first) ++ rows_of (key.records - key.roots) (blank_row key.first)
+  rest = rows_of setup.roots (root_row setup.first) ++ rows_of (setup.records - setup.roots) (blank_row setup.first)
 
   -- there are as many control words as there should be
-  length-controls : length (opening_controls key) ≡ controls key.callers
-  length-controls = let e : length {A = ℕ} (replicate (controls key.callers - 2) 0) ≡ controls key.callers - 2 = length-replicate (controls key.callers - 2) 0 in omega arith
+  length-controls : length (opening_controls setup) ≡ controls setup.callers
+  length-controls = let e : length {A = ℕ} (replicate (controls setup.callers - 2) 0) ≡ controls setup.callers - 2 = length-replicate (controls setup.callers - 2) 0 in omega arith
 
   -- each of them but the first two is 0
-  pub zero_at : (j : ℕ) → 2 ≤ j → j < controls key.callers → get_or (opening_words key) j 0 ≡ 0
+  pub zero_at : (j : ℕ) → 2 ≤ j → j < controls setup.callers → get_or (opening_words setup) j 0 ≡ 0
   zero_at j low high = let k : ℕ = j - 2 in let e : j ≡ suc (suc k) = omega arith in
-      get_or_append_left (opening_controls key) rest 0 j (let l = length-controls in omega arith)
-      ∙ ap (λ (z : ℕ). get_or (opening_controls key) z 0) e ∙ get_or-replicate (controls key.callers - 2) k 0 0 (omega arith)
+      get_or_append_left (opening_controls setup) rest 0 j (let l = length-controls in omega arith)
+      ∙ ap (λ (z : ℕ). get_or (opening_controls setup) z 0) e ∙ get_or-replicate (controls setup.callers - 2) k 0 0 (omega arith)
 
   -- no cursor has moved
-  zero_cursor : (k : ℕ) → get_or (stretch (20 + 4 * key.callers) key.callers (opening_words key)) k 0 ≡ 0
-  zero_cursor k = let from : ℕ = 20 + 4 * key.callers in dite (dec_le key.callers k)
-      (λ past. get_or_past (stretch from key.callers (opening_words key)) k 0 (let e = length-take key.callers (drop from (opening_words key)) in omega arith))
-      (λ below. get_or-take key.callers (drop from (opening_words key)) k 0 (omega arith) ∙ get_or-drop from (opening_words key) k 0 ∙ zero_at (from + k) (omega arith) (omega arith))
+  zero_cursor : (k : ℕ) → get_or (stretch (20 + 4 * setup.callers) setup.callers (opening_words setup)) k 0 ≡ 0
+  zero_cursor k = let from : ℕ = 20 + 4 * setup.callers in dite (dec_le setup.callers k)
+      (λ past. get_or_past (stretch from setup.callers (opening_words setup)) k 0 (let e = length-take setup.callers (drop from (opening_words setup)) in omega arith))
+      (λ below. get_or-take setup.callers (drop from (opening_words setup)) k 0 (omega arith) ∙ get_or-drop from (opening_words setup) k 0 ∙ zero_at (from + k) (omega arith) (omega arith))
 
   -- the row of a root has eight words
-  root_eight : length (root_row key.first) ≡ 8
+  root_eight : length (root_row setup.first) ≡ 8
   root_eight = refl
 
   -- and so has a blank one
-  blank_eight : length (blank_row key.first) ≡ 8
+  blank_eight : length (blank_row setup.first) ≡ 8
   blank_eight = refl
 
   -- the words behind the control words are the rows of the records
-  pub rows_are : key.roots ≤ key.records → rows_in key.records (drop (controls key.callers) (opening_words key)) ≡ map (λ (r : Record). r.row) (opening_records key)
-  rows_are fits = let a : ℕ = key.roots in let b : ℕ = key.records - key.roots in let blanks = rows_of b (blank_row key.first) in
-      ap (rows_in key.records) (drop_at (opening_controls key) rest (controls key.callers) length-controls)
-      ∙ ap (λ (z : ℕ). rows_in z rest) (let e : key.records ≡ a + b = omega arith in e)
-      ∙ rows_in-rows_of a b (root_row key.first) blanks root_eight
-      ∙ ap (λ (z : List (List ℕ)). replicate a (root_row key.first) ++ z) (no_more b (blank_row key.first) blank_eight)
-      ∙ sym (map-append (λ (r : Record). r.row) (replicate a (root_record key.first)) (replicate b (blank_record key.first))
-      ∙ (λ k. map-replicate (λ (r : Record). r.row) a (root_record key.first) k ++ map-replicate (λ (r : Record). r.row) b (blank_record key.first) k))
+  pub rows_are : setup.roots ≤ setup.records → rows_in setup.records (drop (controls setup.callers) (opening_words setup)) ≡ map (λ (r : Record). r.row) (opening_records setup)
+  rows_are fits = let a : ℕ = setup.roots in let b : ℕ = setup.records - setup.roots in let blanks = rows_of b (blank_row setup.first) in
+      ap (rows_in setup.records) (drop_at (opening_controls setup) rest (controls setup.callers) length-controls)
+      ∙ ap (λ (z : ℕ). rows_in z rest) (let e : setup.records ≡ a + b = omega arith in e)
+      ∙ rows_in-rows_of a b (root_row setup.first) blanks root_eight
+      ∙ ap (λ (z : List (List ℕ)). replicate a (root_row setup.first) ++ z) (no_more b (blank_row setup.first) blank_eight)
+      ∙ sym (map-append (λ (r : Record). r.row) (replicate a (root_record setup.first)) (replicate b (blank_record setup.first))
+      ∙ (λ k. map-replicate (λ (r : Record). r.row) a (root_record setup.first) k ++ map-replicate (λ (r : Record). r.row) b (blank_record setup.first) k))
 
-  -- the words are as many as the key says
-  pub wide_is : key.roots ≤ key.records → length (opening_words key) ≡ size key.callers key.records
-  wide_is fits = let a = length-append (opening_controls key) rest in let b = length-append (rows_of key.roots (root_row key.first)) (rows_of (key.records - key.roots) (blank_row key.first)) in let c = length-controls in
-      let d = length-rows_of key.roots (root_row key.first) root_eight in let e = length-rows_of (key.records - key.roots) (blank_row key.first) blank_eight in omega arith
+  -- the words are as many as the setup says
+  pub wide_is : setup.roots ≤ setup.records → length (opening_words setup) ≡ size setup.callers setup.records
+  wide_is fits = let a = length-append (opening_controls setup) rest in let b = length-append (rows_of setup.roots (root_row setup.first)) (rows_of (setup.records - setup.roots) (blank_row setup.first)) in let c = length-controls in
+      let d = length-rows_of setup.roots (root_row setup.first) root_eight in let e = length-rows_of (setup.records - setup.roots) (blank_row setup.first) blank_eight in omega arith
 
   -- no record but the roots is drawn
-  pub left_opening : (a : AllocatorName) (i : ℕ) → key.roots ≤ i → IsLeftBy a key (memory key.callers key.records (opening_words key)) i
+  pub left_opening : (a : AllocatorName) (i : ℕ) → setup.roots ≤ i → IsLeftBy a setup (memory setup.callers setup.records (opening_words setup)) i
   unfolding memory
   left_opening Bump i h = h
-  left_opening Once i h = (h, let e = zero_cursor ((i - key.roots) / range key) in omega arith)
+  left_opening Once i h = (h, let e = zero_cursor ((i - setup.roots) / range setup) in omega arith)
 
   -- and no root is left
-  pub left_roots : (a : AllocatorName) (i : ℕ) → IsLeftBy a key (memory key.callers key.records (opening_words key)) i → key.roots ≤ i
+  pub left_roots : (a : AllocatorName) (i : ℕ) → IsLeftBy a setup (memory setup.callers setup.records (opening_words setup)) i → setup.roots ≤ i
   unfolding memory
   left_roots Bump i h = h
   left_roots Once i h = h.0
 
   -- no caller has a record
-  pub mine_is : (c : ℕ) → key.roots ≤ key.records → replicate key.records None ≡ map (share c) (opening_records key)
-  mine_is c fits = sym (map-append (share c) (replicate key.roots (root_record key.first)) (replicate (key.records - key.roots) (blank_record key.first))
-      ∙ (λ k. map-replicate (share c) key.roots (root_record key.first) k ++ map-replicate (share c) (key.records - key.roots) (blank_record key.first) k)
-      ∙ replicate-append-replicate key.roots (key.records - key.roots) None ∙ ap (λ (z : ℕ). replicate z None) (let e : key.roots + (key.records - key.roots) ≡ key.records = omega arith in e))
+  pub mine_is : (c : ℕ) → setup.roots ≤ setup.records → replicate setup.records None ≡ map (share c) (opening_records setup)
+  mine_is c fits = sym (map-append (share c) (replicate setup.roots (root_record setup.first)) (replicate (setup.records - setup.roots) (blank_record setup.first))
+      ∙ (λ k. map-replicate (share c) setup.roots (root_record setup.first) k ++ map-replicate (share c) (setup.records - setup.roots) (blank_record setup.first) k)
+      ∙ replicate-append-replicate setup.roots (setup.records - setup.roots) None ∙ ap (λ (z : ℕ). replicate z None) (let e : setup.roots + (setup.records - setup.roots) ≡ setup.records = omega arith in e))
 
 -- a packed number 0 is a packed link too
 pub packed_zero : (own : ℕ) → IsPackedLink (packed_number own 0)
@@ -137,37 +138,49 @@ root_words first (suc (suc (suc zero))) h = own_in-packed_number first 0 (omega 
 root_words first (suc (suc (suc (suc zero)))) h = own_in-packed_key first 1 0 (omega arith) (omega arith)
 root_words first (suc (suc (suc (suc (suc f))))) h = ap own_in (get_or-replicate 3 f (packed_number first 0) 0 (omega arith)) ∙ own_in-packed_number first 0 (omega arith)
 
-module _ (key : Key) (ok : IsKey key) where
+-- without flags
+zero_link : (own : ℕ) → packed_number own 0 ≡ packed_link own (record { flags = 0; target = None })
+unfolding packed_number packed_link packed_ref
+zero_link own = omega arith
+
+pub zero_flags : (own : ℕ) → (link_in (packed_number own 0)).flags ≡ 0
+zero_flags own = ap (λ (n : ℕ). (link_in n).flags) (zero_link own) ∙ ap (λ (l : LinkParts). l.flags) (link_in-packed_link own (record { flags = 0; target = None }) (record { flags = omega arith; target = tt }))
+
+module _ (setup : Setup) (ok : IsSetup setup) where
   -- a root is sound
-  pub root_sound : (i : ℕ) → i < key.roots → IsSound key i (root_record key.first)
+  pub root_sound : (i : ℕ) → i < setup.roots → IsSound setup i (root_record setup.first)
   root_sound i h = record {
     eight = refl;
-    generations = root_words key.first;
-    links = λ f is. ⊎_elim (λ e. subst (λ (z : ℕ). IsPackedLink (get_or (root_row key.first) z 0)) (sym e) (packed_zero key.first)) (λ e. subst (λ (z : ℕ). IsPackedLink (get_or (root_row key.first) z 0)) (sym e) (packed_zero key.first)) is;
+    generations = root_words setup.first;
+    links = λ f is. (⊎_elim (λ e. subst (λ (z : ℕ). IsPackedLink (get_or (root_row setup.first) z 0)) (sym e) (packed_zero setup.first)) (λ e. subst (λ (z : ℕ). IsPackedLink (get_or (root_row setup.first) z 0)) (sym e) (packed_zero setup.first)) is, λ one. ap (λ (z : ℕ). (link_in (get_or (root_row setup.first) z 0)).flags) one ∙ zero_flags setup.first);
     within = ok.first;
     roots = λ _. refl;
     no_root = λ _. h;
-    root_era = λ _. refl;
+    unshelved = λ k e. let none : ⊥ = cc in none;
+    root_generation = λ _. refl;
     unborn = λ e. let none : ⊥ = cc in absurd none;
     blank = λ e. let none : ⊥ = cc in absurd none;
     born = λ _. omega arith;
     unfinished = λ c n e. let none : ⊥ = cc in absurd none;
     callers = λ c t e. let none : ⊥ = cc in absurd none;
+    renewable = λ c e. let none : ⊥ = cc in absurd none;
   }
 
   -- and so is each other record
-  pub blank_sound : (i : ℕ) → key.roots ≤ i → IsSound key i (blank_record key.first)
+  pub blank_sound : (i : ℕ) → setup.roots ≤ i → IsSound setup i (blank_record setup.first)
   blank_sound i h = record {
     eight = refl;
-    generations = λ f lt. ap own_in (get_or-replicate 8 f (packed_number (key.first - 1) 0) 0 lt) ∙ own_in-packed_number (key.first - 1) 0 (omega arith);
-    links = λ f is. subst IsPackedLink (sym (get_or-replicate 8 f (packed_number (key.first - 1) 0) 0 (⊎_elim (λ e. omega arith) (λ e. omega arith) is))) (packed_zero (key.first - 1));
+    generations = λ f lt. ap own_in (get_or-replicate 8 f (packed_number (setup.first - 1) 0) 0 lt) ∙ own_in-packed_number (setup.first - 1) 0 (omega arith);
+    links = λ f is. (subst IsPackedLink (sym (get_or-replicate 8 f (packed_number (setup.first - 1) 0) 0 (⊎_elim (λ e. omega arith) (λ e. omega arith) is))) (packed_zero (setup.first - 1)), λ one. ap (λ (z : ℕ). (link_in (get_or (blank_row setup.first) z 0)).flags) one ∙ zero_flags (setup.first - 1));
     within = let e = ok.first in omega arith;
     roots = λ lt. absurd (omega arith);
     no_root = λ e. let none : ⊥ = cc in absurd none;
-    root_era = λ e. let none : ⊥ = cc in absurd none;
+    unshelved = λ k e. let none : ⊥ = cc in none;
+    root_generation = λ e. let none : ⊥ = cc in absurd none;
     unborn = λ e. let p = ok.some_first in omega arith;
     blank = λ _. refl;
     born = λ ne. absurd (ne refl);
     unfinished = λ c n e. let none : ⊥ = cc in absurd none;
     callers = λ c t e. let none : ⊥ = cc in absurd none;
+    renewable = λ c e. let none : ⊥ = cc in absurd none;
   }

@@ -17,7 +17,7 @@ at_some (x ∷ xs) (suc k) h e = at_some xs k h e
 
 -- what the caller that has a record knows of it
 abbrev pub share_of : Standing → Record → Share
-share_of s r = record { standing = s; era = r.era; removed = r.removed; words = known s r.row }
+share_of s r = record { standing = s; generation = r.generation; taken_number = r.taken_number; words = known s r.row }
 
 -- the caller that has a record sees it, and no other caller does
 pub seen_by : (c : ℕ) (s : Standing) (r : Record) → r.place ≡ Of c s → share c r ≡ Some (share_of s r)

@@ -1,37 +1,37 @@
 -- The owner's loads and stores in a record keep the rule.
-use Rattle.std.proofs.Common.{inl, ◌≡◌, ℕ, ◌+◌, ◌-◌, ◌<◌, ◌≤◌, List, [], map, length, get_or, take, set, length-set, Bool, true, cond, sym, refl, ap, ◌∙◌, subst, arith, Option, Some, get_or-set_other}
+use Rattle.std.proofs.Common.{inl, ◌≡◌, ℕ, ◌+◌, ◌-◌, ◌<◌, ◌≤◌, List, [], map, length, get_or, take, set, length-set, Bool, true, cond, sym, refl, ap, ◌∙◌, subst, arith, Option, Some, get_or-set_other, inr}
 use Rattle.std.proofs.lemmas.Bool.{eq-eqb}
 use Rattle.std.proofs.lemmas.List.{get_or-take, length-take}
 use mathlib.Core.Logic.{dite}
 use mathlib.Core.Option.{some}
 use lib.ListN.{get_elem?}
 use Rattle.atomic_table.proofs.Lists.{at_map}
-use Rattle.atomic_table.specs.Table.{State, Me, Allows, keeps}
-use Rattle.record_memory.specs.declared.steps.Word.{Word}
+use Rattle.atomic_table.specs.Table.{State}
 use Rattle.record_memory.specs.declared.steps.Word.TheVariants.{Field}
-use Rattle.record_memory.specs.declared.books.Key.{Key}
+use Rattle.record_memory.specs.declared.books.Setup.{Setup}
 use Rattle.record_memory.specs.declared.books.View.{View}
 use Rattle.record_memory.specs.declared.books.Share.{Share}
 use Rattle.record_memory.specs.declared.books.Standing.{Standing}
-use Rattle.record_memory.specs.declared.books.Standing.TheVariants.{Handing, Own, Spare}
+use Rattle.record_memory.specs.declared.books.Standing.TheVariants.{Handing, Own, Spare, TakenOut, Limbo, Free, Spent}
 use Rattle.record_memory.specs.declared.books.Place.{Place}
 use Rattle.record_memory.specs.declared.books.Place.TheVariants.{Of}
 use Rattle.record_memory.specs.Memory.{Memory, memory, address, word_at, put, row_at}
 use Rattle.record_memory.proofs.Stores.{loads, stores, word_at-field}
 use Rattle.row_words.specs.Packing.{number_in, IsPackedLink}
 use Rattle.record_rule.specs.Records.{Record, known, share}
-use Rattle.record_rule.specs.Inputs.{shape_cell, shape_at, SchemeInput, unseen, unlinked, scheme_cell, scheme_at, scheme_had, name_cell, name_at, scheme_input, guard_of, Outline, outline}
+use Rattle.record_rule.specs.Inputs.{shape_cell, shape_at, SchemeInput, unseen, unpublished, scheme_cell, scheme_at, scheme_had, taken_cell, taken_at, scheme_input, guard_of, Outline, outline}
 use Rattle.record_rule.specs.Facts.{ShapeFacts, CoverFacts}
 use Rattle.record_rule.specs.Laws.{CoverLaws}
 use Rattle.record_rule.specs.World.{Places, Parts, Rule}
-use Rattle.record_rule.specs.Kinds.{field_store, field_load, stored_as, stored_at, loaded_at, share_in, share_after, standing_after, EndsHanding, MayStoreAs, MayStore, IsKnownAs, IsKnownAt}
+use Rattle.record_rule.specs.Kinds.{field_store, field_load, stored_as, stored, loaded, share_in, share_after, standing_after, EndsHanding, MayStoreAs, MayStore, IsKnownAs, IsKnown, IsOverAs, IsOver, Lawful}
 use Rattle.record_rule.proofs.Lists.{below_at, get_at, map_at}
 use Rattle.record_rule.proofs.Owned.{at_some, share_of, has}
-use Rattle.record_rule.proofs.Rebuilt.{rebuilt}
+use Rattle.record_rule.proofs.Counts.{counts_moved, balances_stored}
+use Rattle.record_rule.proofs.Rebuilt.{not_held, rebuilt}
 use Rattle.record_rule.proofs.Quiet.{calm_after, IsSameBook, outline_scheme, outline_after}
 use Rattle.record_rule.proofs.Steps.{before, book, kept_calm}
 use Rattle.record_rule.proofs.Safe.{safe}
-use Rattle.record_rule.proofs.Fields.{with_word, owner_places, stores_as, known_after, shape_unmoved, name_unmoved, scheme_unmoved, ends}
+use Rattle.record_rule.proofs.Fields.{with_word, owner_places, stores_as, known_after, shape_unmoved, taken_unmoved, scheme_unmoved, ends}
 
 -- one of the first three words
 in_take : (row : List ℕ) (f : ℕ) → f < length (take 3 row) → get_or row f 0 ≡ get_or (take 3 row) f 0
@@ -54,22 +54,32 @@ known_part Own row f h = refl
 known_part Spare row f h = refl
 known_part q row f h = in_take row f h
 
+-- and a word that it may store is one of these
+stored_part : (q : Standing) (row : List ℕ) (f : ℕ) → length row ≡ 8 → MayStoreAs q f → f < 8 → f < length (known q row)
+stored_part (Handing n) row f eight may below = omega arith
+stored_part Own row f eight may below = omega arith
+stored_part Spare row f eight may below = omega arith
+stored_part TakenOut row f eight may below = let l = length-take 3 row in omega arith
+stored_part Limbo row f eight may below = let l = length-take 3 row in omega arith
+stored_part Free row f eight may below = let l = length-take 3 row in omega arith
+stored_part Spent row f eight may below = absurd may
+
 -- once it is handed out, it has the birth that it was given
-ended_cell : (c : ℕ) (q : Standing) (r : Record) (f value : ℕ) → EndsHanding q → MayStoreAs q f → scheme_cell (with_word c (standing_after q) r f value) ≡ unlinked c r.era (number_in (get_or r.row 0 0))
+ended_cell : (c : ℕ) (q : Standing) (r : Record) (f value : ℕ) → EndsHanding q → MayStoreAs q f → scheme_cell (with_word c (standing_after q) r f value) ≡ unpublished c r.generation (number_in (get_or r.row 0 0))
 ended_cell c (Handing n) r f value e h = ap (λ (b : Bool). scheme_had c (cond b Own (Handing (n + 1))) (with_word c (cond b Own (Handing (n + 1))) r f value)) (eq-eqb n 7 e)
-    ∙ ap (λ (z : ℕ). unlinked c r.era (number_in z)) (get_or-set_other r.row f 0 value 0 (λ z. omega arith))
+    ∙ ap (λ (z : ℕ). unpublished c r.generation (number_in z)) (get_or-set_other r.row f 0 value 0 (λ z. omega arith))
 ended_cell c q r f value e h = absurd e
 
-module _ (shape : ShapeFacts) (cover : CoverFacts) (key : Key) (s : State (Unit {0}) View) (u : Rule shape cover key s) (id : ℕ) (v : View) (at : get_elem? s.views id ≡ some v) (present : v.present ≡ true) where
+module _ (shape : ShapeFacts) (cover : CoverFacts) (setup : Setup) (s : State (Unit {0}) View) (u : Rule shape cover setup s) (id : ℕ) (v : View) (at : get_elem? s.views id ≡ some v) (present : v.present ≡ true) where
   abbrev m : Memory
-  m = memory key.callers key.records s.words
+  m = memory setup.callers setup.records s.words
 
   abbrev c : ℕ
   c = v.own.caller
 
   -- the caller's book
   abbrev own_there : get_elem? u.books c ≡ some v.own
-  own_there = book shape cover key s u id v at present
+  own_there = book shape cover setup s u id v at present
 
   -- the record that a share of the caller's is of
   pub record_of : (i : ℕ) (h : Share) → share_in v i ≡ Some h → (r : Record) × (get_elem? u.records (i - 1) ≡ some r) × (r.place ≡ Of c h.standing) × (h ≡ share_of h.standing r)
@@ -81,7 +91,7 @@ module _ (shape : ShapeFacts) (cover : CoverFacts) (key : Key) (s : State (Unit 
   row_is i r there = ap (λ (rs : List (List ℕ)). get_or rs (i - 1) []) (sym u.places.rows) ∙ get_at (map (λ (x : Record). x.row) u.records) (i - 1) r.row [] (at_map (λ (x : Record). x.row) u.records (i - 1) r there)
 
   -- the record's index is within the table
-  pub index_in : (i : ℕ) (r : Record) → 0 < i → get_elem? u.records (i - 1) ≡ some r → i ≤ key.records
+  pub index_in : (i : ℕ) (r : Record) → 0 < i → get_elem? u.records (i - 1) ≡ some r → i ≤ setup.records
   index_in i r pos there = let h = below_at u.records (i - 1) r there in let k = u.places.many in omega arith
 
   -- the view and the words after a store
@@ -89,11 +99,11 @@ module _ (shape : ShapeFacts) (cover : CoverFacts) (key : Key) (s : State (Unit 
   after i f value h = stored_as v i f value (Some h)
 
   abbrev words_after : ℕ → ℕ → ℕ → List ℕ
-  words_after i f value = set s.words (address key.callers (Field i f)) value
+  words_after i f value = set s.words (address setup.callers (Field i f)) value
 
   -- the rule after it
   abbrev Kept : ℕ → ℕ → ℕ → Share → Type 0
-  Kept i f value h = Rule shape cover key record { words = words_after i f value; homes = s.homes; views = set s.views id (after i f value h) }
+  Kept i f value h = Rule shape cover setup record { words = words_after i f value; homes = s.homes; views = set s.views id (after i f value h) }
 
   module _ (i f value : ℕ) (h : Share) (r : Record) (pos : 0 < i) (there : get_elem? u.records (i - 1) ≡ some r) (is : r.place ≡ Of c h.standing) (whole : h ≡ share_of h.standing r) (may : MayStore h f value) where
     -- the standing and the record afterwards
@@ -104,120 +114,125 @@ module _ (shape : ShapeFacts) (cover : CoverFacts) (key : Key) (s : State (Unit 
     new = with_word c t r f value
 
     -- what the words say then
-    stored_words : memory key.callers key.records (words_after i f value) ≡ put m (Field i f) value
-    stored_words = stores key.callers key.records s.words (Field i f) value u.wide (pos, index_in i r pos there, may.below)
+    stored_words : memory setup.callers setup.records (words_after i f value) ≡ put m (Field i f) value
+    stored_words = stores setup.callers setup.records s.words (Field i f) value u.wide (pos, index_in i r pos there, may.below)
 
     -- the share has the record's generation
-    era_is : h.era ≡ r.era
-    era_is = ap (λ (x : Share). x.era) whole
+    generation_is : h.generation ≡ r.generation
+    generation_is = ap (λ (x : Share). x.generation) whole
 
     -- and is the record's after the store
     share_is : share_after h f value ≡ share_of t new
-    share_is = λ k. record { standing = t; era = (whole k).era; removed = (whole k).removed; words = (ap (λ (x : Share). set x.words f value) whole ∙ sym (known_after h.standing f value r.row may.field)) k }
+    share_is = λ k. record { standing = t; generation = (whole k).generation; taken_number = (whole k).taken_number; words = (ap (λ (x : Share). set x.words f value) whole ∙ sym (known_after h.standing f value r.row may.field)) k }
 
     -- where the records are afterwards
-    places_after : Places key (set u.records (i - 1) new) (set u.books c (after i f value h).own) (memory key.callers key.records (words_after i f value))
-    places_after = subst (Places key (set u.records (i - 1) new) (set u.books c (after i f value h).own)) (sym stored_words)
-        (owner_places key u.records u.books m c i f value h.standing t v.own (after i f value h).own r u.places own_there there is (stores_as key r f value may.below (may.own ∙ era_is) may.link h.standing may.field)
-        refl (ap (λ (x : Share). set v.own.mine (i - 1) (Some x)) share_is) (calm_after v.own.drawing v.key.records (field_store v i f value h) tt))
+    places_after : Places setup (set u.records (i - 1) new) (set u.books c (after i f value h).own) (memory setup.callers setup.records (words_after i f value))
+    places_after = subst (Places setup (set u.records (i - 1) new) (set u.books c (after i f value h).own)) (sym stored_words)
+        (owner_places setup u.records u.books m c i f value h.standing t v.own (after i f value h).own r u.places own_there there is (stores_as setup r f value may.below (may.own ∙ generation_is) may.link h.standing may.field)
+        refl (ap (λ (x : Share). set v.own.mine (i - 1) (Some x)) share_is) (calm_after v.own.drawing v.setup.records (field_store v i f value h) tt))
 
     -- no guard, note, lock or answered call changes
     same_book : IsSameBook v.own (after i f value h).own
-    same_book = record { guard = refl; notes = refl; locks = refl; answered = refl }
+    same_book = record { guard = refl; notes = refl; roots = refl; locks = refl; answered = refl; offer = refl }
 
     -- a set sees no change
     shape_is : shape_cell new ≡ shape_cell r
     shape_is = shape_unmoved c h.standing r f value may.field ∙ sym (ap (λ (p : Place). shape_at p r) is)
 
     -- nor does the list of those taken out
-    name_is : name_cell new ≡ name_cell r
-    name_is = name_unmoved c h.standing r f value may.field ∙ sym (ap (λ (p : Place). name_at p r) is)
+    taken_is : taken_cell new ≡ taken_cell r
+    taken_is = taken_unmoved c h.standing r f value may.field ∙ sym (ap (λ (p : Place). taken_at p r) is)
 
     -- what the facts read before
     abbrev was : Outline
-    was = before shape cover key s u
+    was = before shape cover setup s u
 
     -- and afterwards
     abbrev now : Outline
-    now = outline (memory key.callers key.records (words_after i f value)) (set u.records (i - 1) new) (set u.books c (after i f value h).own) u.removals u.updates
+    now = outline (memory setup.callers setup.records (words_after i f value)) (set u.records (i - 1) new) (set u.books c (after i f value h).own) u.taken_out u.updates
 
     -- the epoch stays
-    epoch_is : (memory key.callers key.records (words_after i f value)).epoch ≡ m.epoch
+    epoch_is : (memory setup.callers setup.records (words_after i f value)).epoch ≡ m.epoch
     epoch_is = ap (λ (x : Memory). x.epoch) stored_words
 
     -- and so do the announcements
-    announced_is : (memory key.callers key.records (words_after i f value)).announced ≡ m.announced
+    announced_is : (memory setup.callers setup.records (words_after i f value)).announced ≡ m.announced
     announced_is = ap (λ (x : Memory). x.announced) stored_words
 
     -- so the rule stays where the facts hold
-    kept_with : Parts shape cover key now → Kept i f value h
-    kept_with parts = rebuilt shape cover key s u id v at present (words_after i f value) (length-set s.words (address key.callers (Field i f)) value ∙ u.wide) (set u.records (i - 1) new) (after i f value h).own _ refl refl refl refl places_after parts
+    kept_with : Parts shape cover setup now → Kept i f value h
+    kept_with parts = rebuilt shape cover setup s u id v at present (words_after i f value) (length-set s.words (address setup.callers (Field i f)) value ∙ u.wide) (set u.records (i - 1) new) (after i f value h).own _ (not_held setup v.own.caller _ refl (inr (inl refl))) refl refl refl refl refl places_after parts
+        (counts_moved setup.first u.records u.books c v.own (after i f value h).own own_there u.counts (i - 1) r new there (balances_stored setup.first c h.standing v.own.moves r new is refl refl))
 
     -- the store that ends a handing out
     ends_it : CoverLaws cover → EndsHanding h.standing → cover.births v.own.guard (number_in (get_or h.words 0 0)) → Kept i f value h
     ends_it laws end birth =
         let b : ℕ = number_in (get_or h.words 0 0) in let x : SchemeInput = scheme_input was in
-        let cell : scheme_cell new ≡ unlinked c r.era b = ended_cell c h.standing r f value end may.field ∙ sym (ap (λ (z : List ℕ). unlinked c r.era (number_in (get_or z 0 0))) (ap (λ (y : Share). y.words) whole ∙ ended_known h.standing r.row end)) in
-        let law : cover.covered key record x { cells = set x.cells (i - 1) (unlinked c r.era b) } = laws.hands key x (i - 1) c r.era b v.own.guard (safe shape cover key u.records u.books u.removals u.updates m u.places u.parts) u.parts.scheme
+        let cell : scheme_cell new ≡ unpublished c r.generation b = ended_cell c h.standing r f value end may.field ∙ sym (ap (λ (z : List ℕ). unpublished c r.generation (number_in (get_or z 0 0))) (ap (λ (y : Share). y.words) whole ∙ ended_known h.standing r.row end)) in
+        let law : cover.covered setup record x { cells = set x.cells (i - 1) (unpublished c r.generation b) } = laws.hands setup x (i - 1) c r.generation b v.own.guard (safe shape cover setup u.records u.books u.taken_out u.updates m u.places u.parts) u.parts.scheme
         (at_map scheme_cell u.records (i - 1) r there ∙ ap some (ap (λ (p : Place). scheme_at p r) is ∙ ended_unseen c h.standing r end))
         (at_map guard_of u.books c v.own own_there) birth in
-        kept_with (subst (Parts shape cover key) (outline_scheme m (memory key.callers key.records (words_after i f value)) u.removals u.updates epoch_is announced_is u.books c v.own (after i f value h).own own_there same_book u.records (i - 1) r new (unlinked c r.era b) there shape_is cell name_is) record {
+        kept_with (subst (Parts shape cover setup) (outline_scheme m (memory setup.callers setup.records (words_after i f value)) u.taken_out u.updates epoch_is announced_is u.books c v.own (after i f value h).own own_there same_book u.records (i - 1) r new (unpublished c r.generation b) there shape_is cell taken_is) record {
           taken = u.parts.taken;
           held = u.parts.held;
+          known = u.parts.known;
           shape = u.parts.shape;
           told = u.parts.told;
           scheme = law;
           history = u.parts.history;
+          words = u.parts.words;
+          begun = u.parts.begun;
         })
 
     -- a store that ends no handing out
     stays : ¬ EndsHanding h.standing → Kept i f value h
-    stays more = kept_with (subst (Parts shape cover key) (sym (outline_after m (memory key.callers key.records (words_after i f value)) u.removals u.updates epoch_is announced_is u.books c v.own (after i f value h).own own_there same_book u.records (i - 1) r new there
-        record { shape = shape_is; scheme = scheme_unmoved c h.standing r f value may.field more ∙ sym (ap (λ (p : Place). scheme_at p r) is); name = name_is })) u.parts)
+    stays more = kept_with (subst (Parts shape cover setup) (sym (outline_after m (memory setup.callers setup.records (words_after i f value)) u.taken_out u.updates epoch_is announced_is u.books c v.own (after i f value h).own own_there same_book u.records (i - 1) r new there
+        record { shape = shape_is; scheme = scheme_unmoved c h.standing r f value may.field more ∙ sym (ap (λ (p : Place). scheme_at p r) is); taken = taken_is })) u.parts)
 
   -- a load
-  pub load_kept : (i f : ℕ) (r : Record) → 0 < i → f < 8 → get_elem? u.records (i - 1) ≡ some r → get_or s.words (address key.callers (Field i f)) 0 ≡ get_or r.row f 0
-  load_kept i f r pos below there = loads key.callers key.records s.words (Field i f) (pos, index_in i r pos there, below) ∙ ap (λ (z : List ℕ). get_or z f 0) (row_is i r there)
+  pub load_kept : (i f : ℕ) (r : Record) → 0 < i → f < 8 → get_elem? u.records (i - 1) ≡ some r → get_or s.words (address setup.callers (Field i f)) 0 ≡ get_or r.row f 0
+  load_kept i f r pos below there = loads setup.callers setup.records s.words (Field i f) (pos, index_in i r pos there, below) ∙ ap (λ (z : List ℕ). get_or z f 0) (row_is i r there)
 
-module _ (key : Key) where
+module _ (setup : Setup) where
   -- the word that lies where word f of record i lies
-  pub named : (v : View) (word i f : ℕ) → v.key ≡ key → word ≡ address key.callers (Field i f) → 0 < i → f < 8 → word_at v.key.callers word ≡ Field i f
-  named v word i f same is pos below = (λ k. word_at (same k).callers (is k)) ∙ word_at-field key.callers key.records i f pos below
+  pub named : (v : View) (word i f : ℕ) → v.setup ≡ setup → word ≡ address setup.callers (Field i f) → 0 < i → f < 8 → word_at v.setup.callers word ≡ Field i f
+  named v word i f same is pos below = (λ k. word_at (same k).callers (is k)) ∙ word_at-field setup.callers setup.records i f pos below
 
-module _ (shape : ShapeFacts) (cover : CoverFacts) (laws : CoverLaws cover) (key : Key) where
-  -- A caller may store a word of a record that it has. With the last word of a handing out the reclaimer has to allow the record's birth
-  pub stores_word : (slots id : ℕ) (me : Me (Unit {0}) View) (word i f value : ℕ) (h : Share) → me.0.present ≡ true → me.0.key ≡ key → word ≡ address key.callers (Field i f) → 0 < i
-      → share_in me.0 i ≡ Some h → MayStore h f value → (EndsHanding h.standing → cover.births me.0.own.guard (number_in (get_or h.words 0 0)))
-      → Allows (Rule shape cover key) slots id me word (λ _. value) (λ _ w. w ≡ (stored_at me.0 (word_at me.0.key.callers word) value, me.1))
-  stores_word slots id me word i f value h present same is pos mine may birth s u homes at _ = let v : View = me.0 in
-      let x = record_of shape cover key s u id v at present i h mine in
-      let e : stored_at v (word_at v.key.callers word) value ≡ stored_as v i f value (Some h) = ap (λ (w : Word). stored_at v w value) (named key v word i f same is pos may.below) ∙ ap (stored_as v i f value) mine in
-      let kept : Rule shape cover key record { words = set s.words (address key.callers (Field i f)) value; homes = s.homes; views = set s.views id (stored_as v i f value (Some h)) } =
-      dite (ends h.standing) (λ end. ends_it shape cover key s u id v at present i f value h x.0 pos x.1 x.2 x.3 may laws end (birth end)) (λ more. stays shape cover key s u id v at present i f value h x.0 pos x.1 x.2 x.3 may more) in (
-        stored_at v (word_at v.key.callers word) value,
-        keeps,
-        tt,
-        subst (λ (z : ℕ × View). Rule shape cover key record { words = set s.words z.0 value; homes = s.homes; views = set s.views id z.1 }) (λ k. (sym is k, sym e k)) kept,
-        refl,
-      )
-
+module _ (shape : ShapeFacts) (cover : CoverFacts) (laws : CoverLaws cover) (setup : Setup) where
   -- the caller knows the word that is there
-  known_there : (h : Share) (c : ℕ) (r : Record) (f : ℕ) → h ≡ share_of h.standing r → f < length h.words → get_or r.row f 0 ≡ get_or h.words f 0
-  known_there h c r f whole lt = known_part h.standing r.row f (let e : length h.words ≡ length (known h.standing r.row) = ap (λ (z : Share). length z.words) whole in omega arith)
+  known_there : (h : Share) (r : Record) (f : ℕ) → h ≡ share_of h.standing r → f < length h.words → get_or r.row f 0 ≡ get_or h.words f 0
+  known_there h r f whole lt = known_part h.standing r.row f (let e : length h.words ≡ length (known h.standing r.row) = ap (λ (z : Share). length z.words) whole in omega arith)
       ∙ sym (ap (λ (z : Share). get_or z.words f 0) whole)
 
+  -- and a step of its own finds it
+  pub finds_known : (s : State (Unit {0}) View) (u : Rule shape cover setup s) (id : ℕ) (v : View) (at : get_elem? s.views id ≡ some v) (word i f : ℕ) (h : Share) → v.present ≡ true → word ≡ address setup.callers (Field i f) → 0 < i → f < 8 → share_in v i ≡ Some h → f < length h.words
+      → get_or s.words word 0 ≡ get_or h.words f 0
+  finds_known s u id v at word i f h present is pos below mine lt = let x = record_of shape cover setup s u id v at present i h mine in
+      ap (λ (z : ℕ). get_or s.words z 0) is ∙ load_kept shape cover setup s u id v at present i f x.0 pos below x.1 ∙ known_there h x.0 f x.3 lt
+
+  -- A caller may store a word of a record that it has, and stores over what it knows. With the last word of a handing out the reclaimer has to allow the record's birth
+  pub stores_word : (id : ℕ) (v : View) (word i f value : ℕ) (h : Share) → v.present ≡ true → v.setup ≡ setup → word ≡ address setup.callers (Field i f) → 0 < i
+      → share_in v i ≡ Some h → MayStore h f value → (EndsHanding h.standing → cover.births v.own.guard (number_in (get_or h.words 0 0)))
+      → Lawful (Rule shape cover setup) id v word (λ _. value) (λ n w. (w ≡ stored v i f value) × IsOver v i f n)
+  stores_word id v word i f value h present same is pos mine may birth s u at =
+      let x = record_of shape cover setup s u id v at present i h mine in
+      let lt : f < length h.words = (let l = stored_part h.standing x.0.row f (u.places.sound (i - 1) x.0 x.1).eight may.field may.below in let e : length h.words ≡ length (known h.standing x.0.row) = ap (λ (z : Share). length z.words) x.3 in omega arith) in
+      let e : stored v i f value ≡ stored_as v i f value (Some h) = ap (stored_as v i f value) mine in
+      let kept : Rule shape cover setup record { words = set s.words (address setup.callers (Field i f)) value; homes = s.homes; views = set s.views id (stored_as v i f value (Some h)) } =
+      dite (ends h.standing) (λ end. ends_it shape cover setup s u id v at present i f value h x.0 pos x.1 x.2 x.3 may laws end (birth end)) (λ more. stays shape cover setup s u id v at present i f value h x.0 pos x.1 x.2 x.3 may more) in (
+        stored v i f value,
+        subst (λ (z : ℕ × View). Rule shape cover setup record { words = set s.words z.0 value; homes = s.homes; views = set s.views id z.1 }) (λ k. (sym is k, sym e k)) kept,
+        (refl, subst (λ (o : Option Share). IsOverAs o f (get_or s.words word 0)) (sym mine) (finds_known s u id v at word i f h present is pos may.below mine lt)),
+      )
+
   -- A caller may load a word of a record that it has, and finds what it knows
-  pub loads_word : (slots id : ℕ) (me : Me (Unit {0}) View) (word i f : ℕ) (h : Share) → me.0.present ≡ true → me.0.key ≡ key → word ≡ address key.callers (Field i f) → 0 < i → f < 8
-      → share_in me.0 i ≡ Some h → f < length h.words
-      → Allows (Rule shape cover key) slots id me word (λ n. n) (λ n w. (w ≡ (loaded_at me.0 (word_at me.0.key.callers word) n, me.1)) × IsKnownAt me.0 (word_at me.0.key.callers word) n)
-  loads_word slots id me word i f h present same is pos below mine lt s u homes at _ = let v : View = me.0 in let n : ℕ = get_or s.words word 0 in
-      let x = record_of shape cover key s u id v at present i h mine in let r : Record = x.0 in let c : ℕ = v.own.caller in
-      let e = named key v word i f same is pos below in
-      let found : n ≡ get_or r.row f 0 = ap (λ (z : ℕ). get_or s.words z 0) is ∙ load_kept shape cover key s u id v at present i f r pos below x.1 in
-      let known_link : f ≡ 1 → IsPackedLink n = λ one. subst IsPackedLink (sym (found ∙ ap (λ (z : ℕ). get_or r.row z 0) one)) ((u.places.sound (i - 1) r x.1).links 1 (inl refl)) in (
-        loaded_at v (word_at v.key.callers word) n,
-        keeps,
-        tt,
-        subst (λ (q : Word). Rule shape cover key record { words = set s.words word n; homes = s.homes; views = set s.views id (loaded_at v q n) }) (sym e) (kept_calm shape cover key s u id v at present word (field_load v i f n) tt),
-        (refl, subst (λ (q : Word). IsKnownAt v q n) (sym e) (subst (λ (o : Option Share). IsKnownAs o f n) (sym mine) (found ∙ known_there h c r f x.3 lt, known_link))),
+  pub loads_word : (id : ℕ) (v : View) (word i f : ℕ) (h : Share) → v.present ≡ true → v.setup ≡ setup → word ≡ address setup.callers (Field i f) → 0 < i → f < 8 → share_in v i ≡ Some h → f < length h.words
+      → Lawful (Rule shape cover setup) id v word (λ n. n) (λ n w. (w ≡ loaded v i f n) × IsKnown v i f n)
+  loads_word id v word i f h present same is pos below mine lt s u at = let n : ℕ = get_or s.words word 0 in
+      let x = record_of shape cover setup s u id v at present i h mine in let r : Record = x.0 in
+      let found : n ≡ get_or r.row f 0 = ap (λ (z : ℕ). get_or s.words z 0) is ∙ load_kept shape cover setup s u id v at present i f r pos below x.1 in
+      let known_link : f ≡ 1 → IsPackedLink n = λ one. subst IsPackedLink (sym (found ∙ ap (λ (z : ℕ). get_or r.row z 0) one)) ((u.places.sound (i - 1) r x.1).links 1 (inl refl)).0 in (
+        loaded v i f n,
+        kept_calm shape cover setup s u id v at present word (field_load v i f n) (not_held setup v.own.caller (field_load v i f n) refl (inl refl)) tt,
+        (refl, subst (λ (o : Option Share). IsKnownAs o f n) (sym mine) (found ∙ known_there h r f x.3 lt, known_link)),
       )

@@ -8,7 +8,7 @@ use Rattle.record_memory.specs.declared.steps.Word.TheVariants.{Drawn}
 use Rattle.record_memory.specs.declared.steps.StepKind.{StepKind}
 use Rattle.record_memory.specs.declared.steps.StepKind.TheVariants.{Load, Store, Swap, Add, Exchange}
 use Rattle.record_memory.specs.declared.steps.Step.{Step}
-use Rattle.record_memory.specs.declared.books.Key.{Key}
+use Rattle.record_memory.specs.declared.books.Setup.{Setup}
 use Rattle.record_memory.specs.declared.books.Book.{Book}
 use Rattle.record_memory.specs.declared.books.Drawing.{Drawing}
 use Rattle.record_memory.specs.declared.books.Drawing.TheVariants.{Unsure, Below, Past}
@@ -16,7 +16,7 @@ use Rattle.record_memory.specs.Memory.{Memory}
 use Rattle.record_rule.specs.Records.{Record, share}
 use Rattle.row_words.specs.Refs.{RefParts}
 use Rattle.set_model.specs.declared.calls.Update.{Update}
-use Rattle.record_rule.specs.Inputs.{shape_cell, SchemeCell, scheme_cell, name_cell, guard_of, notes_of, locks_of, answered_of, outline}
+use Rattle.record_rule.specs.Inputs.{shape_cell, SchemeCell, scheme_cell, taken_cell, guard_of, notes_of, roots_of, locks_of, answered_of, offer_of, outline}
 use Rattle.record_rule.specs.World.{overshoot_by, overshoot, BookFits, Places}
 use Rattle.record_rule.specs.Kinds.{drawing_found, drawing_on, drawing_after}
 use Rattle.std.proofs.lemmas.List.{map-set}
@@ -69,79 +69,85 @@ same_overshoot books c b own at h = let e = sum_by-set overshoot books c own b (
     let w : overshoot (get_or books c b) ≡ overshoot b = ap overshoot g in omega arith
 
 -- the other books, where none of them sees what changed of the records
-pub books_after : (key : Key) (m m' : Memory) (records records' : List Record) (books : List Book) (c : ℕ) (own : Book) → (key.records ≤ m.drawn → key.records ≤ m'.drawn)
-    → ((d : ℕ) → d ≢ c → map (share d) records' ≡ map (share d) records) → BookFits key m' records' c own
-    → ((d : ℕ) (b : Book) → get_elem? books d ≡ some b → BookFits key m records d b)
-    → (d : ℕ) (b : Book) → get_elem? (set books c own) d ≡ some b → BookFits key m' records' d b
-books_after key m m' records records' books c own more unseen mine all d b e =
-    ⊎_elim (λ t. subst (λ (z : ℕ). BookFits key m' records' z b) (sym t.0) (subst (BookFits key m' records' c) t.1 mine))
+pub books_after : (setup : Setup) (m m' : Memory) (records records' : List Record) (books : List Book) (c : ℕ) (own : Book) → (setup.records ≤ m.drawn → setup.records ≤ m'.drawn)
+    → ((d : ℕ) → d ≢ c → map (share d) records' ≡ map (share d) records) → BookFits setup m' records' c own
+    → ((d : ℕ) (b : Book) → get_elem? books d ≡ some b → BookFits setup m records d b)
+    → (d : ℕ) (b : Book) → get_elem? (set books c own) d ≡ some b → BookFits setup m' records' d b
+books_after setup m m' records records' books c own more unseen mine all d b e =
+    ⊎_elim (λ t. subst (λ (z : ℕ). BookFits setup m' records' z b) (sym t.0) (subst (BookFits setup m' records' c) t.1 mine))
     (λ t. let f = all d b t.1 in record { number = f.number; mine = f.mine ∙ sym (unseen d t.0); past = λ h. more (f.past h) }) (at_set books c d own b e)
 
 -- the facts see of a record what they saw
 pub record IsSameRecord (r r' : Record) : Type 0 where
   pub shape : shape_cell r' ≡ shape_cell r
   pub scheme : scheme_cell r' ≡ scheme_cell r
-  pub name : name_cell r' ≡ name_cell r
+  pub taken : taken_cell r' ≡ taken_cell r
 
 -- and of a book
 pub record IsSameBook (b b' : Book) : Type 0 where
   pub guard : b'.guard ≡ b.guard
   pub notes : b'.notes ≡ b.notes
+  pub roots : b'.root_notes ≡ b.root_notes
   pub locks : b'.locks ≡ b.locks
   pub answered : b'.answered ≡ b.answered
+  pub offer : b'.offer ≡ b.offer
 
 -- so they see what they saw, after a step that changed one record and one book so, or one book alone
-module _ (m m' : Memory) (removals : List RefParts) (updates : List Update) (epoch : m'.epoch ≡ m.epoch) (announced : m'.announced ≡ m.announced) (books : List Book) (c : ℕ) (b own : Book) (at : get_elem? books c ≡ some b) (same : IsSameBook b own) where
+module _ (m m' : Memory) (taken_out : List RefParts) (updates : List Update) (epoch : m'.epoch ≡ m.epoch) (announced : m'.announced ≡ m.announced) (books : List Book) (c : ℕ) (b own : Book) (at : get_elem? books c ≡ some b) (same : IsSameBook b own) where
   -- where no record changed
-  pub outline_same : (records : List Record) → outline m' records (set books c own) removals updates ≡ outline m records books removals updates
+  pub outline_same : (records : List Record) → outline m' records (set books c own) taken_out updates ≡ outline m records books taken_out updates
   outline_same records = λ k. record {
     shapes = map shape_cell records;
     schemes = map scheme_cell records;
-    names = map name_cell records;
+    takings = map taken_cell records;
     epoch = epoch k;
     announced = announced k;
-    removals = removals;
+    taken_out = taken_out;
     updates = updates;
     guards = map_set_same guard_of books c b own at same.guard k;
     notes = map_set_same notes_of books c b own at same.notes k;
+    roots = map_set_same roots_of books c b own at same.roots k;
     locks = map_set_same locks_of books c b own at same.locks k;
     answered = map_set_same answered_of books c b own at same.answered k;
+    offers = map_set_same offer_of books c b own at same.offer k;
   }
 
   -- or after one that changed what the reclaimer's facts see of one record
-  pub outline_scheme : (records : List Record) (i : ℕ) (r r' : Record) (cell : SchemeCell) → get_elem? records i ≡ some r → shape_cell r' ≡ shape_cell r → scheme_cell r' ≡ cell → name_cell r' ≡ name_cell r
-      → record (outline m records books removals updates) { schemes = set (map scheme_cell records) i cell } ≡ outline m' (set records i r') (set books c own) removals updates
-  outline_scheme records i r r' cell there shape_is scheme_is name_is = λ k. record {
+  pub outline_scheme : (records : List Record) (i : ℕ) (r r' : Record) (cell : SchemeCell) → get_elem? records i ≡ some r → shape_cell r' ≡ shape_cell r → scheme_cell r' ≡ cell → taken_cell r' ≡ taken_cell r
+      → record (outline m records books taken_out updates) { schemes = set (map scheme_cell records) i cell } ≡ outline m' (set records i r') (set books c own) taken_out updates
+  outline_scheme records i r r' cell there shape_is scheme_is taken_is = λ k. record {
     shapes = sym (map_set_same shape_cell records i r r' there shape_is) k;
     schemes = sym (map-set scheme_cell records i r' ∙ ap (set (map scheme_cell records) i) scheme_is) k;
-    names = sym (map_set_same name_cell records i r r' there name_is) k;
+    takings = sym (map_set_same taken_cell records i r r' there taken_is) k;
     epoch = sym epoch k;
     announced = sym announced k;
-    removals = removals;
+    taken_out = taken_out;
     updates = updates;
     guards = sym (map_set_same guard_of books c b own at same.guard) k;
     notes = sym (map_set_same notes_of books c b own at same.notes) k;
+    roots = sym (map_set_same roots_of books c b own at same.roots) k;
     locks = sym (map_set_same locks_of books c b own at same.locks) k;
     answered = sym (map_set_same answered_of books c b own at same.answered) k;
+    offers = sym (map_set_same offer_of books c b own at same.offer) k;
   }
 
   -- or where no fact sees a change of the record
-  pub outline_after : (records : List Record) (i : ℕ) (r r' : Record) → get_elem? records i ≡ some r → IsSameRecord r r' → outline m' (set records i r') (set books c own) removals updates ≡ outline m records books removals updates
-  outline_after records i r r' there alike = sym (outline_scheme records i r r' (scheme_cell r) there alike.shape alike.scheme alike.name)
-      ∙ ap (λ (l : List SchemeCell). record (outline m records books removals updates) { schemes = l }) (set_again (map scheme_cell records) i (scheme_cell r) (at_map scheme_cell records i r there))
+  pub outline_after : (records : List Record) (i : ℕ) (r r' : Record) → get_elem? records i ≡ some r → IsSameRecord r r' → outline m' (set records i r') (set books c own) taken_out updates ≡ outline m records books taken_out updates
+  outline_after records i r r' there alike = sym (outline_scheme records i r r' (scheme_cell r) there alike.shape alike.scheme alike.taken)
+      ∙ ap (λ (l : List SchemeCell). record (outline m records books taken_out updates) { schemes = l }) (set_again (map scheme_cell records) i (scheme_cell r) (at_map scheme_cell records i r there))
 
 -- a step after which all records and all words are as before
-pub places_calm : (key : Key) (records : List Record) (books : List Book) (m : Memory) (c : ℕ) (b own : Book) → get_elem? books c ≡ some b → own.caller ≡ b.caller → own.mine ≡ b.mine
-    → overshoot own ≡ overshoot b → Places key records books m → Places key records (set books c own) m
-places_calm key records books m c b own at caller mine weight p = let f = p.books_fit c b at in record {
+pub places_calm : (setup : Setup) (records : List Record) (books : List Book) (m : Memory) (c : ℕ) (b own : Book) → get_elem? books c ≡ some b → own.caller ≡ b.caller → own.mine ≡ b.mine
+    → overshoot own ≡ overshoot b → Places setup records books m → Places setup records (set books c own) m
+places_calm setup records books m c b own at caller mine weight p = let f = p.books_fit c b at in record {
   many = p.many;
   rows = p.rows;
   sound = p.sound;
   left = p.left;
   undrawn = p.undrawn;
-  drawn = subst (λ (z : ℕ). m.drawn ≤ key.records + z) (sym (same_overshoot books c b own at weight)) p.drawn;
-  blank = p.blank;
+  drawn = subst (λ (z : ℕ). m.drawn ≤ setup.records + z) (sym (same_overshoot books c b own at weight)) p.drawn;
+  untouched = p.untouched;
   callers = length-set books c own ∙ p.callers;
-  books_fit = books_after key m m records records books c own (λ h. h) (λ d ne. refl)
+  books_fit = books_after setup m m records records books c own (λ h. h) (λ d ne. refl)
       record { number = caller ∙ f.number; mine = mine ∙ f.mine; past = λ h. f.past (past_before b.drawing own.drawing weight h) } p.books_fit;
 }

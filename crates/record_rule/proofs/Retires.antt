@@ -1,11 +1,11 @@
 -- A record that its caller took out is put away: its stamp is stored, and from then on it is in limbo.
-use Rattle.std.proofs.Common.{◌≡◌, ℕ, ◌-◌, ◌<◌, ◌^◌, List, set, length-set, true, sym, refl, ap, ◌∙◌, subst, arith, Some}
+use Rattle.std.proofs.Common.{◌≡◌, ℕ, ◌-◌, ◌<◌, ◌^◌, List, get_or, set, length-set, true, sym, refl, ap, ◌∙◌, subst, arith, Option, Some, inl, inr}
 use mathlib.Core.Option.{some}
 use lib.ListN.{get_elem?}
 use Rattle.atomic_table.specs.Table.{State}
 use Rattle.atomic_table.proofs.Lists.{at_map}
 use Rattle.record_memory.specs.declared.steps.Word.TheVariants.{Field}
-use Rattle.record_memory.specs.declared.books.Key.{Key}
+use Rattle.record_memory.specs.declared.books.Setup.{Setup}
 use Rattle.record_memory.specs.declared.books.View.{View}
 use Rattle.record_memory.specs.declared.books.Book.{Book}
 use Rattle.record_memory.specs.declared.books.Share.{Share}
@@ -22,22 +22,25 @@ use Rattle.record_rule.specs.Inputs.{SchemeInput, SchemeCell, limbo, birth, sche
 use Rattle.record_rule.specs.Facts.{ShapeFacts, CoverFacts}
 use Rattle.record_rule.specs.Laws.{CoverLaws}
 use Rattle.record_rule.specs.World.{Places, Parts, Rule}
-use Rattle.record_rule.specs.Kinds.{field_store, Lawful}
+use Rattle.record_rule.specs.Kinds.{field_store, IsOverAs, IsOver, Lawful}
 use Rattle.record_rule.specs.Links.{HasTaken, retired_share, retired}
 use Rattle.record_rule.proofs.Owned.{share_of}
-use Rattle.record_rule.proofs.Rebuilt.{rebuilt}
+use Rattle.record_rule.specs.Counts.{drawn_as, retired_as, freed_as}
+use Rattle.record_rule.specs.Kinds.{retired_one}
+use Rattle.record_rule.proofs.Counts.{Balances, counts_moved}
+use Rattle.record_rule.proofs.Rebuilt.{not_held, rebuilt}
 use Rattle.record_rule.proofs.Quiet.{calm_after, outline_scheme}
 use Rattle.record_rule.proofs.Safe.{safe}
 use Rattle.record_rule.proofs.Steps.{before, book}
-use Rattle.record_rule.proofs.Owners.{record_of, index_in}
+use Rattle.record_rule.proofs.Owners.{record_of, index_in, finds_known}
 use Rattle.record_rule.proofs.Moves.{retired_record, retired_places, retired_cells}
 
 -- a step of the caller that took the record out and has its share, with a stamp that the reclaimer allows
-module _ (shape : ShapeFacts) (cover : CoverFacts) (covering : CoverLaws cover) (key : Key) (s : State (Unit {0}) View) (u : Rule shape cover key s) (id : ℕ) (v : View) (at : get_elem? s.views id ≡ some v) (present : v.present ≡ true)
-    (r : RefParts) (h : Share) (stamp : ℕ) (some_index : 0 < r.index) (small : stamp < 2 ^ 44) (may : cover.stamps v.own.guard h.removed stamp) (era : h.era ≡ r.generation)
+module _ (shape : ShapeFacts) (cover : CoverFacts) (covering : CoverLaws cover) (setup : Setup) (s : State (Unit {0}) View) (u : Rule shape cover setup s) (id : ℕ) (v : View) (at : get_elem? s.views id ≡ some v) (present : v.present ≡ true)
+    (r : RefParts) (h : Share) (stamp : ℕ) (some_index : 0 < r.index) (small : stamp < 2 ^ 44) (may : cover.stamps v.own.guard h.taken_number stamp) (generation : h.generation ≡ r.generation)
     (node : Record) (there : get_elem? u.records (r.index - 1) ≡ some node) (is : node.place ≡ Of v.own.caller TakenOut) (whole : h ≡ share_of TakenOut node) where
   abbrev m : Memory
-  m = memory key.callers key.records s.words
+  m = memory setup.callers setup.records s.words
 
   abbrev c : ℕ
   c = v.own.caller
@@ -58,65 +61,73 @@ module _ (shape : ShapeFacts) (cover : CoverFacts) (covering : CoverLaws cover) 
 
   -- the words afterwards, and what they say
   abbrev words : List ℕ
-  words = set s.words (address key.callers (Field i 2)) value
+  words = set s.words (address setup.callers (Field i 2)) value
 
   abbrev m' : Memory
-  m' = memory key.callers key.records words
+  m' = memory setup.callers setup.records words
 
   -- one word of the table is another one
   put_is : m' ≡ put m (Field i 2) value
-  put_is = stores key.callers key.records s.words (Field i 2) value u.wide (some_index, index_in shape cover key s u id v at present i node some_index there, omega arith)
+  put_is = stores setup.callers setup.records s.words (Field i 2) value u.wide (some_index, index_in shape cover setup s u id v at present i node some_index there, omega arith)
 
   -- the caller's share is the record's
   share_is : retired_share h value ≡ share_of Limbo new
-  share_is = λ k. record { standing = Limbo; era = (whole k).era; removed = (whole k).removed; words = (ap (λ (x : Share). set x.words 2 value) whole ∙ sym (take-set 3 2 value node.row (omega arith))) k }
+  share_is = λ k. record { standing = Limbo; generation = (whole k).generation; taken_number = (whole k).taken_number; words = (ap (λ (x : Share). set x.words 2 value) whole ∙ sym (take-set 3 2 value node.row (omega arith))) k }
 
   -- the record is in limbo of the caller
-  places : Places key (set u.records (i - 1) new) (set u.books c own) m'
-  places = subst (Places key (set u.records (i - 1) new) (set u.books c own)) (sym put_is)
-      (retired_places key u.records u.books m c i m.epoch value v.own own node u.places (book shape cover key s u id v at present) there is
-      (own_in-packed_number r.generation stamp small ∙ sym era ∙ ap (λ (x : Share). x.era) whole) refl (ap (λ (x : Share). set v.own.mine (i - 1) (Some x)) share_is)
-      (calm_after v.own.drawing v.key.records (field_store v i 2 value h) tt))
+  places : Places setup (set u.records (i - 1) new) (set u.books c own) m'
+  places = subst (Places setup (set u.records (i - 1) new) (set u.books c own)) (sym put_is)
+      (retired_places setup u.records u.books m c i m.epoch value v.own own node u.places (book shape cover setup s u id v at present) there is
+      (own_in-packed_number r.generation stamp small ∙ sym generation ∙ ap (λ (x : Share). x.generation) whole) refl (ap (λ (x : Share). set v.own.mine (i - 1) (Some x)) share_is)
+      (calm_after v.own.drawing v.setup.records (field_store v i 2 value h) tt))
 
   -- what the facts read before
   abbrev was : Outline
-  was = before shape cover key s u
+  was = before shape cover setup s u
 
   -- a limbo cell as the law puts it
   abbrev cell : SchemeCell
-  cell = limbo c node.era (birth node) node.removed stamp m.epoch
+  cell = limbo c node.generation (birth node) node.taken_number stamp m.epoch
 
   -- which the reclaimer's facts allow
-  scheme : cover.covered key (record (scheme_input was) { cells = set was.schemes (i - 1) cell })
+  scheme : cover.covered setup (record (scheme_input was) { cells = set was.schemes (i - 1) cell })
   scheme = let x : SchemeInput = scheme_input was in let cells = retired_cells c m.epoch value node (u.places.sound (i - 1) node there).eight is in
-      covering.puts key x (i - 1) c node.era (birth node) node.removed stamp v.own.guard (safe shape cover key u.records u.books u.removals u.updates m u.places u.parts) u.parts.scheme
-      (at_map scheme_cell u.records (i - 1) node there ∙ ap some cells.0.scheme_is) (at_map guard_of u.books c v.own (book shape cover key s u id v at present))
-      (subst (λ (x : Share). cover.stamps v.own.guard x.removed stamp) whole may)
+      covering.puts setup x (i - 1) c node.generation (birth node) node.taken_number stamp v.own.guard (safe shape cover setup u.records u.books u.taken_out u.updates m u.places u.parts) u.parts.scheme
+      (at_map scheme_cell u.records (i - 1) node there ∙ ap some cells.0.scheme_is) (at_map guard_of u.books c v.own (book shape cover setup s u id v at present))
+      (subst (λ (x : Share). cover.stamps v.own.guard x.taken_number stamp) whole may)
 
   -- no other fact sees the step
-  outline_is : record was { schemes = set was.schemes (i - 1) cell } ≡ outline m' (set u.records (i - 1) new) (set u.books c own) u.removals u.updates
+  outline_is : record was { schemes = set was.schemes (i - 1) cell } ≡ outline m' (set u.records (i - 1) new) (set u.books c own) u.taken_out u.updates
   outline_is = let cells = retired_cells c m.epoch value node (u.places.sound (i - 1) node there).eight is in
-      outline_scheme m m' u.removals u.updates (ap (λ (x : Memory). x.epoch) put_is) (ap (λ (x : Memory). x.announced) put_is) u.books c v.own own (book shape cover key s u id v at present) record { guard = refl; notes = refl; locks = refl; answered = refl }
+      outline_scheme m m' u.taken_out u.updates (ap (λ (x : Memory). x.epoch) put_is) (ap (λ (x : Memory). x.announced) put_is) u.books c v.own own (book shape cover setup s u id v at present) record { guard = refl; notes = refl; roots = refl; locks = refl; answered = refl; offer = refl }
       u.records (i - 1) node new cell there cells.1.shape_is
-      (cells.1.scheme_is ∙ ap (λ (n : ℕ). limbo c node.era (birth node) node.removed n m.epoch) (number_in-packed_number r.generation stamp small)) cells.1.name_is
+      (cells.1.scheme_is ∙ ap (λ (n : ℕ). limbo c node.generation (birth node) node.taken_number n m.epoch) (number_in-packed_number r.generation stamp small)) cells.1.taken_is
+
+  -- it counts as retired once more
+  retires_one : Balances setup.first v.own.moves (retired_one v.own.moves) node new
+  retires_one = let a : drawn_as node.place ≡ 1 = ap drawn_as is in let b : retired_as node.place ≡ 0 = ap retired_as is in let d : freed_as node.place ≡ 0 = ap freed_as is in
+      record { drawn = omega arith; reused = omega arith; retired = omega arith; freed = omega arith }
 
   -- so the rule stays
-  kept : Rule shape cover key record { words = words; homes = s.homes; views = set s.views id (retired v r h stamp) }
-  kept = rebuilt shape cover key s u id v at present words (length-set s.words (address key.callers (Field i 2)) value ∙ u.wide) (set u.records (i - 1) new) own _ refl refl refl refl places
-      (subst (Parts shape cover key) outline_is record {
+  kept : Rule shape cover setup record { words = words; homes = s.homes; views = set s.views id (retired v r h stamp) }
+  kept = rebuilt shape cover setup s u id v at present words (length-set s.words (address setup.callers (Field i 2)) value ∙ u.wide) (set u.records (i - 1) new) own _ (not_held setup v.own.caller _ refl (inr (inl refl))) refl refl refl refl refl places
+      (subst (Parts shape cover setup) outline_is record {
         taken = u.parts.taken;
         held = u.parts.held;
+        known = u.parts.known;
         shape = u.parts.shape;
         told = u.parts.told;
         scheme = scheme;
         history = u.parts.history;
-      })
+        words = u.parts.words;
+        begun = u.parts.begun;
+      }) (counts_moved setup.first u.records u.books c v.own own (book shape cover setup s u id v at present) u.counts (i - 1) node new there retires_one)
 
-module _ (shape : ShapeFacts) (cover : CoverFacts) (covering : CoverLaws cover) (key : Key) where
+module _ (shape : ShapeFacts) (cover : CoverFacts) (covering : CoverLaws cover) (setup : Setup) where
   -- A caller may retire a record that it took out, with a stamp that the reclaimer allows it
-  pub retires : (id word stamp : ℕ) (v : View) (r : RefParts) (h : Share) → v.present ≡ true → v.key ≡ key → 0 < r.index → word ≡ address key.callers (Field r.index 2) → HasTaken v r h → stamp < 2 ^ 44 → cover.stamps v.own.guard h.removed stamp
-      → Lawful (Rule shape cover key) id v word (λ _. packed_number r.generation stamp) (λ _ w. w ≡ retired v r h stamp)
-  retires id word stamp v r h present same some_index is taken small may s u at = let x = record_of shape cover key s u id v at present r.index h taken.known in let c : ℕ = v.own.caller in
+  pub retires : (id word stamp : ℕ) (v : View) (r : RefParts) (h : Share) → v.present ≡ true → v.setup ≡ setup → 0 < r.index → word ≡ address setup.callers (Field r.index 2) → HasTaken v r h → stamp < 2 ^ 44 → cover.stamps v.own.guard h.taken_number stamp
+      → Lawful (Rule shape cover setup) id v word (λ _. packed_number r.generation stamp) (λ n w. (w ≡ retired v r h stamp) × IsOver v r.index 2 n)
+  retires id word stamp v r h present same some_index is taken small may s u at = let x = record_of shape cover setup s u id v at present r.index h taken.known in let c : ℕ = v.own.caller in
       let whole : h ≡ share_of TakenOut x.0 = x.3 ∙ ap (λ (q : Standing). share_of q x.0) taken.standing in
-      let rule = kept shape cover covering key s u id v at present r h stamp some_index small may taken.era x.0 x.1 (x.2 ∙ ap (Of c) taken.standing) whole in
-      (retired v r h stamp, subst (λ (z : ℕ). Rule shape cover key record { words = set s.words z (packed_number r.generation stamp); homes = s.homes; views = set s.views id (retired v r h stamp) }) (sym is) rule, refl)
+      let rule = kept shape cover covering setup s u id v at present r h stamp some_index small may taken.generation x.0 x.1 (x.2 ∙ ap (Of c) taken.standing) whole in
+      (retired v r h stamp, subst (λ (z : ℕ). Rule shape cover setup record { words = set s.words z (packed_number r.generation stamp); homes = s.homes; views = set s.views id (retired v r h stamp) }) (sym is) rule, (refl, subst (λ (o : Option Share). IsOverAs o 2 (get_or s.words word 0)) (sym taken.known) (finds_known shape cover covering setup s u id v at word r.index 2 h present is some_index (omega arith) taken.known (let l = taken.three in omega arith))))

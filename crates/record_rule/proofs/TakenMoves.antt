@@ -5,101 +5,115 @@ use mathlib.Core.Option.{some}
 use lib.ListN.{get_elem?}
 use Rattle.atomic_table.proofs.Lists.{at_set, at_map, at_longer, at_last, set_here, set_else}
 use Rattle.record_memory.specs.declared.steps.Word.{Word}
-use Rattle.record_memory.specs.declared.books.Key.{Key}
+use Rattle.record_memory.specs.declared.books.Setup.{Setup}
 use Rattle.record_memory.specs.declared.books.Standing.{Standing}
 use Rattle.record_memory.specs.declared.books.Standing.TheVariants.{TakenOut, Limbo}
 use Rattle.record_memory.specs.declared.books.Place.{Place}
-use Rattle.record_memory.specs.declared.books.Place.TheVariants.{Of}
+use Rattle.record_memory.specs.declared.books.Place.TheVariants.{Linked, Of}
 use Rattle.row_words.specs.Refs.{RefParts, refer}
 use Rattle.record_rule.specs.Records.{Record}
-use Rattle.record_rule.specs.Inputs.{out, shape_had, shape_at, shape_cell, NameCell, unnamed, named, name_had, name_at, name_cell}
+use Rattle.record_rule.specs.Inputs.{linked, out, shape_had, shape_at, shape_cell, TakenCell, untaken, was_taken, taken_had, taken_at, taken_cell}
 use Rattle.record_rule.specs.Facts.{At, ShapeFacts}
-use Rattle.record_rule.specs.Taken.{era_of, IsNameOf, TakenFits}
-use Rattle.record_rule.specs.Laws.{NamesFit, IsNewName}
+use Rattle.record_rule.specs.Taken.{generation_of, IsTakenAs, TakenFits}
+use Rattle.record_rule.specs.Laws.{OutCellsFit, IsNewGeneration}
 use Rattle.record_rule.proofs.Lists.{below_at, one_at, map_at}
 use Rattle.record_rule.proofs.Seats.{at_end}
 
--- a record that was taken out, as a set sees it, has its name in the list
-out_had : (era m n : ℕ) (body : List ℕ) (s : Standing) (r : Record) → shape_had s r ≡ out era body m n → name_had s r ≡ named era n
-out_had era m n body TakenOut r e = let x : r.era ≡ era = cc in let y : r.removed ≡ n = cc in λ k. named (x k) (y k)
-out_had era m n body Limbo r e = let x : r.era ≡ era = cc in let y : r.removed ≡ n = cc in λ k. named (x k) (y k)
-out_had era m n body s r e = let none : ⊥ = cc in absurd none
+-- a record that was taken out, as a set sees it, stands in the list
+out_had : (generation m n : ℕ) (body : List ℕ) (s : Standing) (r : Record) → shape_had s r ≡ out generation body m n → taken_had s r ≡ was_taken generation n
+out_had generation m n body TakenOut r e = let x : r.generation ≡ generation = cc in let y : r.taken_number ≡ n = cc in λ k. was_taken (x k) (y k)
+out_had generation m n body Limbo r e = let x : r.generation ≡ generation = cc in let y : r.taken_number ≡ n = cc in λ k. was_taken (x k) (y k)
+out_had generation m n body s r e = let none : ⊥ = cc in absurd none
 
 -- the same, wherever the record is
-out_at : (era m n : ℕ) (body : List ℕ) (p : Place) (r : Record) → shape_at p r ≡ out era body m n → name_at p r ≡ named era n
-out_at era m n body (Of c s) r e = out_had era m n body s r e
-out_at era m n body p r e = let none : ⊥ = cc in absurd none
+out_at : (generation m n : ℕ) (body : List ℕ) (p : Place) (r : Record) → shape_at p r ≡ out generation body m n → taken_at p r ≡ was_taken generation n
+out_at generation m n body (Of c s) r e = out_had generation m n body s r e
+out_at generation m n body p r e = let none : ⊥ = cc in absurd none
 
-module _ (key : Key) where
-  -- each name in the list of a record that wasn't taken out at its generation is of an older one
-  older_name : (names : List NameCell) (removals : List RefParts) (own : RefParts) → TakenFits key names removals → At names (own.index - 1) (unnamed own.generation) → (k : ℕ) (r : RefParts) → At removals k r → r.index ≡ own.index → r.generation < own.generation
-  older_name names removals own fits at k r in_list same = let x = fits.each k r in_list in
-      let here : At names (own.index - 1) x.2 = ap (λ (i : ℕ). get_elem? names (i - 1)) (sym same) ∙ x.3 in
-      subst (λ (c : NameCell). IsNameOf c r.generation k) (one_at names (own.index - 1) x.2 (unnamed own.generation) here at) x.4
+-- a linked record, as a set sees it, wasn't taken out at its generation
+linked_had : (generation m : ℕ) (body : List ℕ) (s : Standing) (r : Record) → shape_had s r ≡ linked generation body m → ⊥
+linked_had generation m body TakenOut r e = cc
+linked_had generation m body Limbo r e = cc
+linked_had generation m body s r e = cc
+
+linked_at : (generation m : ℕ) (body : List ℕ) (p : Place) (r : Record) → shape_at p r ≡ linked generation body m → taken_at p r ≡ untaken generation
+linked_at generation m body Linked r e = let x : r.generation ≡ generation = cc in ap untaken x
+linked_at generation m body (Of c s) r e = absurd (linked_had generation m body s r e)
+linked_at generation m body p r e = let none : ⊥ = cc in absurd none
+
+module _ (setup : Setup) where
+  -- each reference in the list of a record that wasn't taken out at its generation is of an older one
+  older_taken : (takings : List TakenCell) (taken_out : List RefParts) (own : RefParts) → TakenFits setup takings taken_out → At takings (own.index - 1) (untaken own.generation) → (k : ℕ) (r : RefParts) → At taken_out k r → r.index ≡ own.index → r.generation < own.generation
+  older_taken takings taken_out own fits at k r in_list same = let x = fits.each k r in_list in
+      let here : At takings (own.index - 1) x.2 = ap (λ (i : ℕ). get_elem? takings (i - 1)) (sym same) ∙ x.3 in
+      subst (λ (c : TakenCell). IsTakenAs c r.generation k) (one_at takings (own.index - 1) x.2 (untaken own.generation) here at) x.4
 
   -- so at that generation it is new to the list
-  pub new_name : (s : ShapeFacts) (names : List NameCell) (removals : List RefParts) (own : RefParts) → TakenFits key names removals → At names (own.index - 1) (unnamed own.generation) → IsNewName s removals own
-  new_name s names removals own fits at = older_name names removals own fits at
+  pub new_generation : (s : ShapeFacts) (takings : List TakenCell) (taken_out : List RefParts) (own : RefParts) → TakenFits setup takings taken_out → At takings (own.index - 1) (untaken own.generation) → IsNewGeneration s taken_out own
+  new_generation s takings taken_out own fits at = older_taken takings taken_out own fits at
 
   -- what was taken out stands in the list at its number, and once
-  pub names_fit : (s : ShapeFacts) (records : List Record) (removals : List RefParts) (locks : List (List Word)) → TakenFits key (map name_cell records) removals
-      → NamesFit s (record { cells = map shape_cell records; removals = removals; locks = locks })
-  names_fit s records removals locks fits = record {
-    named = λ i era m n body at. let x = map_at shape_cell records i (out era body m n) at in fits.own i era n (at_map name_cell records i x.0 x.1 ∙ ap some (out_at era m n body x.0.place x.0 x.2));
+  pub out_cells_fit : (s : ShapeFacts) (records : List Record) (taken_out : List RefParts) (locks : List (List Word)) → TakenFits setup (map taken_cell records) taken_out
+      → OutCellsFit s (record { cells = map shape_cell records; taken_out = taken_out; locks = locks })
+  out_cells_fit s records taken_out locks fits = record {
+    numbered = λ i generation m n body at. let x = map_at shape_cell records i (out generation body m n) at in fits.own i generation n (at_map taken_cell records i x.0 x.1 ∙ ap some (out_at generation m n body x.0.place x.0 x.2));
     once = fits.once;
+    indexed = λ n r e. (fits.each n r e).0;
+    unlisted = λ i generation m n body at e. let x = map_at shape_cell records i (linked generation body m) at in
+        let lt : generation < generation = older_taken (map taken_cell records) taken_out (refer (i + 1) generation) fits (subst (λ (k : ℕ). At (map taken_cell records) k (untaken generation)) (let q : i ≡ i + 1 - 1 = omega arith in q) (at_map taken_cell records i x.0 x.1 ∙ ap some (linked_at generation m body x.0.place x.0 x.2))) n (refer (i + 1) generation) e refl in omega arith;
   }
 
-  module _ (names : List NameCell) (removals : List RefParts) (i era : ℕ) (fits : TakenFits key names removals) (at : At names i (unnamed era)) (late : key.first ≤ era) where
-    -- the new name, the cell of its record, and both lists with it
+  module _ (takings : List TakenCell) (taken_out : List RefParts) (i generation : ℕ) (fits : TakenFits setup takings taken_out) (at : At takings i (untaken generation)) (late : setup.first ≤ generation) where
+    -- the new reference, the cell of its record, and both lists with it
     abbrev gone : RefParts
-    gone = refer (i + 1) era
+    gone = refer (i + 1) generation
 
-    abbrev cell : NameCell
-    cell = named era (length removals)
+    abbrev cell : TakenCell
+    cell = was_taken generation (length taken_out)
 
-    abbrev names' : List NameCell
-    names' = set names i cell
+    abbrev takings' : List TakenCell
+    takings' = set takings i cell
 
-    abbrev removals' : List RefParts
-    removals' = removals ++ gone ∷ []
+    abbrev taken_out' : List RefParts
+    taken_out' = taken_out ++ gone ∷ []
 
     -- it wasn't in the list
-    unlisted : (n : ℕ) → At removals n gone → ⊥
-    unlisted n in_list = let lt : era < era = older_name names removals gone fits (subst (λ (k : ℕ). At names k (unnamed era)) (let e : i ≡ i + 1 - 1 = omega arith in e) at) n gone in_list refl in omega arith
+    unlisted : (n : ℕ) → At taken_out n gone → ⊥
+    unlisted n in_list = let lt : generation < generation = older_taken takings taken_out gone fits (subst (λ (k : ℕ). At takings k (untaken generation)) (let e : i ≡ i + 1 - 1 = omega arith in e) at) n gone in_list refl in omega arith
 
     -- the record has its new cell
-    here : At names' i cell
-    here = set_here names i cell (below_at names i (unnamed era) at)
+    here : At takings' i cell
+    here = set_here takings i cell (below_at takings i (untaken generation) at)
 
-    -- a name that was in the list is still a record's
-    old_name : (n k generation : ℕ) (c : NameCell) → At names k c → IsNameOf c generation n → Dec (k ≡ i) → (c' : NameCell) × At names' k c' × IsNameOf c' generation n
-    old_name n k generation c there name (yes e) = (
+    -- a reference that was in the list is still a record's
+    old_taken : (n k g : ℕ) (c : TakenCell) → At takings k c → IsTakenAs c g n → Dec (k ≡ i) → (c' : TakenCell) × At takings' k c' × IsTakenAs c' g n
+    old_taken n k g c there name (yes e) = (
       cell,
-      subst (λ (j : ℕ). At names' j cell) (sym e) here,
-      inl (subst (λ (z : NameCell). IsNameOf z generation n) (one_at names k c (unnamed era) there (subst (λ (j : ℕ). At names j (unnamed era)) (sym e) at)) name),
+      subst (λ (j : ℕ). At takings' j cell) (sym e) here,
+      inl (subst (λ (z : TakenCell). IsTakenAs z g n) (one_at takings k c (untaken generation) there (subst (λ (j : ℕ). At takings j (untaken generation)) (sym e) at)) name),
     )
-    old_name n k generation c there name (no ne) = (c, set_else names i k cell ne ∙ there, name)
+    old_taken n k g c there name (no ne) = (c, set_else takings i k cell ne ∙ there, name)
 
-    -- each name is a record's, the new one too
-    each_name : (n : ℕ) (r : RefParts) → At removals' n r → (0 < r.index) × (key.first ≤ r.generation) × (c : NameCell) × At names' (r.index - 1) c × IsNameOf c r.generation n
-    each_name n r in_list = ⊎_elim
-        (λ q. let x = fits.each n r q in let y = old_name n (r.index - 1) r.generation x.2 x.3 x.4 (ℕ_discrete (r.index - 1) i) in (x.0, x.1, y.0, y.1, y.2))
-        (λ q. subst (λ (z : RefParts). (0 < z.index) × (key.first ≤ z.generation) × (c : NameCell) × At names' (z.index - 1) c × IsNameOf c z.generation n) q.1
-        (omega arith, late, cell, subst (λ (k : ℕ). At names' k cell) (let e : i ≡ i + 1 - 1 = omega arith in e) here, inr (refl, q.0)))
-        (at_end removals gone r n in_list)
+    -- each reference is a record's, the new one too
+    each_taken : (n : ℕ) (r : RefParts) → At taken_out' n r → (0 < r.index) × (setup.first ≤ r.generation) × (c : TakenCell) × At takings' (r.index - 1) c × IsTakenAs c r.generation n
+    each_taken n r in_list = ⊎_elim
+        (λ q. let x = fits.each n r q in let y = old_taken n (r.index - 1) r.generation x.2 x.3 x.4 (ℕ_discrete (r.index - 1) i) in (x.0, x.1, y.0, y.1, y.2))
+        (λ q. subst (λ (z : RefParts). (0 < z.index) × (setup.first ≤ z.generation) × (c : TakenCell) × At takings' (z.index - 1) c × IsTakenAs c z.generation n) q.1
+        (omega arith, late, cell, subst (λ (k : ℕ). At takings' k cell) (let e : i ≡ i + 1 - 1 = omega arith in e) here, inr (refl, q.0)))
+        (at_end taken_out gone r n in_list)
 
-    -- a record is taken out, and its name is put at the end of the list
-    pub taken_out : TakenFits key (set names i (named era (length removals))) (removals ++ refer (i + 1) era ∷ [])
-    taken_out = record {
-      each = each_name;
-      older = λ j g c there le lt. let x : (n : ℕ) × At removals n (refer (j + 1) g) = ⊎_elim
-          (λ q. fits.older j g (unnamed era) (subst (λ (k : ℕ). At names k (unnamed era)) (sym q.0) at) le (subst (λ (z : NameCell). g < era_of z) (sym q.1) lt))
-          (λ q. fits.older j g c q.1 le lt) (at_set names i j cell c there) in (x.0, at_longer removals (gone ∷ []) x.0 (refer (j + 1) g) x.1);
+    -- a record is taken out, and its reference is put at the end of the list
+    pub one_more_taken : TakenFits setup (set takings i (was_taken generation (length taken_out))) (taken_out ++ refer (i + 1) generation ∷ [])
+    one_more_taken = record {
+      each = each_taken;
+      older = λ j g c there le lt. let x : (n : ℕ) × At taken_out n (refer (j + 1) g) = ⊎_elim
+          (λ q. fits.older j g (untaken generation) (subst (λ (k : ℕ). At takings k (untaken generation)) (sym q.0) at) le (subst (λ (z : TakenCell). g < generation_of z) (sym q.1) lt))
+          (λ q. fits.older j g c q.1 le lt) (at_set takings i j cell c there) in (x.0, at_longer taken_out (gone ∷ []) x.0 (refer (j + 1) g) x.1);
       own = λ j e n there. ⊎_elim
-          (λ q. let same : era ≡ e = (let c = q.1 in cc) in let number : length removals ≡ n = (let c = q.1 in cc) in
-          subst (λ (z : RefParts). At removals' n z) (λ k. refer (sym q.0 k + 1) (same k)) (at_last removals gone n number))
-          (λ q. at_longer removals (gone ∷ []) n (refer (j + 1) e) (fits.own j e n q.1)) (at_set names i j cell (named e n) there);
+          (λ q. let same : generation ≡ e = (let c = q.1 in cc) in let number : length taken_out ≡ n = (let c = q.1 in cc) in
+          subst (λ (z : RefParts). At taken_out' n z) (λ k. refer (sym q.0 k + 1) (same k)) (at_last taken_out gone n number))
+          (λ q. at_longer taken_out (gone ∷ []) n (refer (j + 1) e) (fits.own j e n q.1)) (at_set takings i j cell (was_taken e n) there);
       once = λ n m r p q. ⊎_elim
-          (λ a. ⊎_elim (λ b. fits.once n m r a b) (λ b. absurd (unlisted n (a ∙ ap some (sym b.1)))) (at_end removals gone r m q))
-          (λ a. ⊎_elim (λ b. absurd (unlisted m (b ∙ ap some (sym a.1)))) (λ b. a.0 ∙ sym b.0) (at_end removals gone r m q)) (at_end removals gone r n p);
+          (λ a. ⊎_elim (λ b. fits.once n m r a b) (λ b. absurd (unlisted n (a ∙ ap some (sym b.1)))) (at_end taken_out gone r m q))
+          (λ a. ⊎_elim (λ b. absurd (unlisted m (b ∙ ap some (sym a.1)))) (λ b. a.0 ∙ sym b.0) (at_end taken_out gone r m q)) (at_end taken_out gone r n p);
     }

@@ -43,12 +43,17 @@ IsChained Spent = ⊥
 -- the record is own, spare, in limbo or free of the caller, at this generation
 pub record OwnsChain (v : View) (r : RefParts) : Type 0 where
   pub is_ref : IsRef r
-  pub within : r.index ≤ v.key.records
+  pub within : r.index ≤ v.setup.records
   pub share : Share
   pub known : share_in v r.index ≡ Some share
   pub chained : IsChained share.standing
-  pub era : share.era ≡ r.generation
+  pub generation : share.generation ≡ r.generation
   pub long : 2 < length share.words
+
+-- the record is free of the caller, at this generation
+pub record IsFree (v : View) (r : RefParts) : Type 0 where
+  pub owns : OwnsChain v r
+  pub free : owns.share.standing ≡ Free
 
 -- what is known of a record but for its chain word
 abbrev pub unchained : Option Share → Option Share

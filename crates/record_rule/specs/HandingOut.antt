@@ -10,15 +10,15 @@ use Rattle.record_rule.specs.Kinds.{stored, share_in}
 
 -- the words of a record that was just handed out, with its birth in word 0
 abbrev pub fresh_row : ℕ → ℕ → List ℕ
-fresh_row era birth = packed_number era birth ∷ replicate 7 (packed_number era 0)
+fresh_row generation birth = packed_number generation birth ∷ replicate 7 (packed_number generation 0)
 
 -- the caller drew the record, or took it from its free chain, and has stored none of its words
 pub record HasDrawn (v : View) (r : RefParts) : Type 0 where
-  pub within : r.index ≤ v.key.records
+  pub within : r.index ≤ v.setup.records
   pub share : Share
   pub known : share_in v r.index ≡ Some share
   pub fresh : share.standing ≡ Handing 0
-  pub era : share.era ≡ r.generation
+  pub generation : share.generation ≡ r.generation
   pub eight : length share.words ≡ 8
 
 -- what is known after the first n words of the row are stored
@@ -32,11 +32,11 @@ handed_out v r birth = stores_from v r.index (fresh_row r.generation birth) 8
 
 -- the caller has the record so, with this row
 pub record HasAs (standing : Standing) (v : View) (r : RefParts) (row : List ℕ) : Type 0 where
-  pub within : r.index ≤ v.key.records
+  pub within : r.index ≤ v.setup.records
   pub share : Share
   pub known : share_in v r.index ≡ Some share
   pub standing_is : share.standing ≡ standing
-  pub era : share.era ≡ r.generation
+  pub generation : share.generation ≡ r.generation
   pub row_is : share.words ≡ row
   pub eight : length row ≡ 8
 

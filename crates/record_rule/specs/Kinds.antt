@@ -13,11 +13,12 @@ use Rattle.record_memory.specs.declared.books.Book.{Book}
 use Rattle.record_memory.specs.declared.books.Share.{Share}
 use Rattle.record_memory.specs.declared.books.Standing.{Standing}
 use Rattle.record_memory.specs.declared.books.Standing.TheVariants.{Handing, Own, Spare, TakenOut, Limbo, Free, Spent}
+use Rattle.record_memory.specs.declared.books.Moves.{Moves}
 use Rattle.record_memory.specs.declared.books.Drawing.{Drawing}
 use Rattle.record_memory.specs.declared.books.Drawing.TheVariants.{Unsure, Below, Past}
-use Rattle.record_memory.specs.Memory.{word_at}
+use Rattle.record_memory.specs.Memory.{address, word_at}
 use Rattle.row_words.specs.Packing.{own_in, IsPackedLink}
-use Rattle.record_rule.specs.Records.{blank_row, IsLinkField}
+use Rattle.record_rule.specs.Records.{blank_row, IsLinkField, IsLinkIn}
 
 -- what the caller knows of record i
 abbrev pub share_in : View → ℕ → Option Share
@@ -64,20 +65,41 @@ drawing_after Unsure records t = drawing_on records t.kind t.word t.found
 drawing_after Below records t = drawing_on records t.kind t.word t.found
 drawing_after Past records t = Past
 
--- the caller made one more step, and this is what it then knows of the records that it has
+-- one more move of each kind
+abbrev pub drew_one : Moves → Moves
+drew_one m = record m { drawn = m.drawn + 1 }
+
+abbrev pub reused_one : Moves → Moves
+reused_one m = record m { reused = m.reused + 1 }
+
+abbrev pub retired_one : Moves → Moves
+retired_one m = record m { retired = m.retired + 1 }
+
+abbrev pub gave_birth : Moves → Moves
+gave_birth m = record m { births = m.births + 1 }
+
+-- and several that freed a record
+abbrev pub freed_more : Moves → ℕ → Moves
+freed_more m n = record m { freed = m.freed + n }
+
+-- the caller made one more step, and this is what it then knows of the records that it has, and how many moves of records it made
+abbrev pub advanced_by : View → Step → List (Option Share) → Moves → View
+advanced_by v t mine moves = record v { own = record v.own { steps = v.own.steps ++ t ∷ []; mine = mine; drawing = drawing_after v.own.drawing v.setup.records t; moves = moves } }
+
+-- the same with as many moves as before
 abbrev pub advanced : View → Step → List (Option Share) → View
-advanced v t mine = record v { own = record v.own { steps = v.own.steps ++ t ∷ []; mine = mine; drawing = drawing_after v.own.drawing v.key.records t } }
+advanced v t mine = advanced_by v t mine v.own.moves
 
 -- a load of a control word that found n
 abbrev pub control_load : View → ℕ → ℕ → Step
-control_load v word n = record { kind = Load; word = word_at v.key.callers word; held = None; found = n; left = n; idle = idle v.own }
+control_load v word n = record { kind = Load; word = word_at v.setup.callers word; held = None; found = n; left = n; idle = idle v.own }
 
 abbrev pub loaded_control : View → ℕ → ℕ → View
 loaded_control v word n = advanced v (control_load v word n) v.own.mine
 
 -- a look at the number of records drawn that finds one left shows that the caller never went past the last one
 abbrev pub ShowsBelow : View → ℕ → ℕ → Type 0
-ShowsBelow v word n = word ≡ 0 → n < v.key.records → (loaded_control v word n).own.drawing ≡ Below
+ShowsBelow v word n = word ≡ address v.setup.callers Drawn → n < v.setup.records → (loaded_control v word n).own.drawing ≡ Below
 
 -- the step that adds 1 to the number of records drawn, which was n
 abbrev pub draw_step : View → ℕ → Step
@@ -85,14 +107,14 @@ draw_step v n = record { kind = Add; word = Drawn; held = None; found = n; left 
 
 -- a record that was just drawn
 abbrev pub drawn_share : ℕ → Share
-drawn_share first = record { standing = Handing 0; era = first; removed = 0; words = blank_row first }
+drawn_share first = record { standing = Handing 0; generation = first; taken_number = 0; words = blank_row first }
 
 abbrev pub drew : View → ℕ → View
-drew v n = advanced v (draw_step v n) (if nat_lt n v.key.records then slice_set v.own.mine n (Some (drawn_share v.key.first)) else v.own.mine)
+drew v n = advanced_by v (draw_step v n) (if nat_lt n v.setup.records then slice_set v.own.mine n (Some (drawn_share v.setup.first)) else v.own.mine) (if nat_lt n v.setup.records then drew_one v.own.moves else v.own.moves)
 
 -- where a record was left, the caller didn't have it before and now does
 abbrev pub DrewNew : View → ℕ → Type 0
-DrewNew v n = n < v.key.records → (share_in v (n + 1) ≡ None) × (share_in (drew v n) (n + 1) ≡ Some (drawn_share v.key.first))
+DrewNew v n = n < v.setup.records → (share_in v (n + 1) ≡ None) × (share_in (drew v n) (n + 1) ≡ Some (drawn_share v.setup.first))
 
 -- which word of a record its owner may store next
 abbrev pub MayStoreAs : Standing → ℕ → Type 0
@@ -108,8 +130,8 @@ MayStoreAs Spent f = ⊥
 pub record MayStore (h : Share) (f value : ℕ) : Type 0 where
   pub field : MayStoreAs h.standing f
   pub below : f < 8
-  pub own : own_in value ≡ h.era
-  pub link : IsLinkField f → IsPackedLink value
+  pub own : own_in value ≡ h.generation
+  pub link : IsLinkField f → IsLinkIn f value
 
 -- the eighth word ends the handing out
 abbrev pub standing_after : Standing → Standing
@@ -130,6 +152,16 @@ EndsHanding Limbo = ⊥
 EndsHanding Free = ⊥
 EndsHanding Spent = ⊥
 
+-- and the record is the caller's own with it
+abbrev pub moves_stored : Standing → Moves → Moves
+moves_stored (Handing n) m = if n == 7 then gave_birth m else m
+moves_stored Own m = m
+moves_stored Spare m = m
+moves_stored TakenOut m = m
+moves_stored Limbo m = m
+moves_stored Free m = m
+moves_stored Spent m = m
+
 abbrev pub share_after : Share → ℕ → ℕ → Share
 share_after h f value = record h { standing = standing_after h.standing; words = slice_set h.words f value }
 
@@ -139,7 +171,7 @@ field_store v i f value h = record { kind = Store; word = Field i f; held = None
 
 abbrev pub stored_as : View → ℕ → ℕ → ℕ → Option Share → View
 stored_as v i f value None = v
-stored_as v i f value (Some h) = advanced v (field_store v i f value h) (slice_set v.own.mine (i - 1) (Some (share_after h f value)))
+stored_as v i f value (Some h) = advanced_by v (field_store v i f value h) (slice_set v.own.mine (i - 1) (Some (share_after h f value))) (moves_stored h.standing v.own.moves)
 
 abbrev pub stored : View → ℕ → ℕ → ℕ → View
 stored v i f value = stored_as v i f value (share_in v i)
@@ -159,49 +191,21 @@ IsKnownAs (Some h) f n = (n ≡ slice_index_or h.words f 0) × (f ≡ 1 → IsPa
 abbrev pub IsKnown : View → ℕ → ℕ → ℕ → Type 0
 IsKnown v i f n = IsKnownAs (share_in v i) f n
 
--- the same by the place of the word in the table
-abbrev pub stored_at : View → Word → ℕ → View
-stored_at v Drawn n = v
-stored_at v Epoch n = v
-stored_at v Lock n = v
-stored_at v Blank n = v
-stored_at v (Shelf k) n = v
-stored_at v (Announced k) n = v
-stored_at v (Cursor c) n = v
-stored_at v (Field i f) n = stored v i f n
+-- the owner stores over what it knows
+abbrev pub IsOverAs : Option Share → ℕ → ℕ → Type 0
+IsOverAs None f n = Unit {0}
+IsOverAs (Some h) f n = n ≡ slice_index_or h.words f 0
 
-abbrev pub loaded_at : View → Word → ℕ → View
-loaded_at v Drawn n = v
-loaded_at v Epoch n = v
-loaded_at v Lock n = v
-loaded_at v Blank n = v
-loaded_at v (Shelf k) n = v
-loaded_at v (Announced k) n = v
-loaded_at v (Cursor c) n = v
-loaded_at v (Field i f) n = loaded v i f n
-
-abbrev pub IsKnownAt : View → Word → ℕ → Type 0
-IsKnownAt v Drawn n = Unit {0}
-IsKnownAt v Epoch n = Unit {0}
-IsKnownAt v Lock n = Unit {0}
-IsKnownAt v Blank n = Unit {0}
-IsKnownAt v (Shelf k) n = Unit {0}
-IsKnownAt v (Announced k) n = Unit {0}
-IsKnownAt v (Cursor c) n = Unit {0}
-IsKnownAt v (Field i f) n = IsKnown v i f n
+abbrev pub IsOver : View → ℕ → ℕ → ℕ → Type 0
+IsOver v i f n = IsOverAs (share_in v i) f n
 
 -- a step on a control word that left it as `left`
 abbrev pub control_step : View → StepKind → ℕ → ℕ → ℕ → Step
-control_step v kind word found left = record { kind = kind; word = word_at v.key.callers word; held = None; found = found; left = left; idle = idle v.own }
+control_step v kind word found left = record { kind = kind; word = word_at v.setup.callers word; held = None; found = found; left = left; idle = idle v.own }
 
 -- the caller made the step, and nothing else that it knows changes
-abbrev pub noted : View → Step → View
-noted v t = advanced v t v.own.mine
-
--- Whatever the table is, the rule stays when the pass in seat id, which knows v, makes this step on a control word, after which the word is f of what it was
-abbrev pub Permits : (State (Unit {0}) View → Type 0) → ℕ → View → StepKind → ℕ → (ℕ → ℕ) → Type 0
-Permits holds id v kind word f = (s : State (Unit {0}) View) → holds s → get_elem? s.views id ≡ some v
-    → holds record { words = slice_set s.words word (f (slice_index s.words word)); homes = s.homes; views = slice_set s.views id (noted v (control_step v kind word (slice_index s.words word) (f (slice_index s.words word)))) }
+abbrev pub made_step : View → Step → View
+made_step v t = advanced v t v.own.mine
 
 -- Whatever the table is, the pass in seat id, which knows v, can know something afterwards of which `told` holds with the value found, and the rule stays, when this word becomes f of what it was
 abbrev pub Lawful : (State (Unit {0}) View → Type 0) → ℕ → View → ℕ → (ℕ → ℕ) → (ℕ → View → Type 0) → Type 0

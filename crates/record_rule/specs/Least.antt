@@ -1,48 +1,65 @@
 -- A set in which nothing is ever linked, and a reclaimer that frees nothing and lets nothing be reached: the least that keeps the laws. Tests of the table alone use them.
-use Rattle.std.specs.Prelude.{ℕ, zero, suc, replicate, true, Option, Some, None, refl}
-use Rattle.std.proofs.Common.{arith, sym}
+use Rattle.std.specs.Prelude.{ℕ, zero, suc, replicate, true, false, Option, Some, None, refl}
+use Rattle.std.proofs.Common.{arith, sym, inl}
 use mathlib.Core.Option.{some-ne-none}
 use Rattle.row_words.specs.Refs.{RefParts}
+use Rattle.set_model.specs.declared.names.SetName.TheVariants.{Plain}
+use Rattle.set_model.specs.declared.names.ReclaimerName.TheVariants.{Nothing}
 use Rattle.record_rule.specs.Facts.{At, ShapeFacts, CoverFacts}
 use Rattle.record_rule.specs.Guards.{blank_guard}
 use Rattle.record_rule.specs.Laws.{ShapeLaws, CoverLaws}
 
 abbrev pub least_shape : ShapeFacts
 least_shape = record {
-  formed = λ key x. Unit {0};
-  told = λ key x h. Unit {0};
-  legal = λ updates u. ⊥;
-  replies = λ updates call reply. ⊥;
+  name = Plain;
+  formed = λ setup x. Unit {0};
+  told = λ setup x h. Unit {0};
+  knows = λ setup x updates start k. Unit {0};
+  helped = ⊥;
   settled = λ f body. true;
   may_hold = λ near f. ⊥;
-  may_exchange = λ key near f old new call. ⊥;
-  may_publish = λ key near f old body next call. ⊥;
-  may_unlink = λ key near f gone new. ⊥;
-  shown = λ key y updates. Unit {0};
+  may_exchange = λ setup near f old new call. ⊥;
+  may_publish = λ setup near f old body next call. ⊥;
+  may_unlink = λ setup near f old gone new next call. ⊥;
+  lockable = λ f. ⊥;
+  may_hold_frozen = λ setup near kept f. ⊥;
+  shown = λ setup y updates. Unit {0};
 }
 
 pub least_shape_laws : ShapeLaws least_shape
 least_shape_laws = record {
-  starts = λ key h some fit none. (tt, tt);
-  keys_stand = λ key x near f l formed n. refl;
-  reaches = λ key x near f l t formed n may plain to. absurd may;
-  exchanges = λ key x h c number near f old new call given n link may. absurd may;
-  publishes = λ key x h c number near f old own body marked next call given n fits is own_ref long name may. absurd may;
-  gone_linked = λ key x near f gone note new formed n may. absurd may;
-  unlinks = λ key x h near f gone note new i era m body given n fits link may. absurd may;
-  shows = λ key x h near f l start c target given n at seen behind. tt;
-  begins = λ key x h c given. tt;
+  starts = λ setup h some fit none. (tt, tt);
+  keys_stand = λ setup x near f l formed n. refl;
+  reaches = λ setup x near f l t formed n may plain to. absurd may;
+  exchanges = λ setup x h c number near f old new call given n link may. absurd may;
+  publishes = λ setup x h c number near f old own body marked next call given n fits is own_ref long name may. absurd may;
+  gone_linked = λ setup x near f old gone note new next call formed n to may. absurd may;
+  follows = λ setup x h near f l start c kept t given n at behind known may to. absurd may;
+  unlinks = λ setup x h c number near f old gone note new next call i generation m body given n to fits behind link may. absurd may;
+  hides = λ setup x h cells given hidden. record { stands = (tt, tt); known = λ start k e. tt };
+  shows = λ setup x h near f l start c target given n at seen behind. tt;
+  nothing = λ setup x updates start r. tt;
+  begins = λ setup x h c given. tt;
 }
 
 abbrev pub least_cover : CoverFacts
 least_cover = record {
-  covered = λ key x. Unit {0};
+  name = Nothing;
+  covered = λ setup x. Unit {0};
   first = blank_guard 3;
   places = 3;
+  begins_loading = false;
   births = λ g b. Unit {0};
   stamps = λ g n stamp. Unit {0};
   may_reach = λ g q. ⊥;
   reached = λ m g q t. g;
+  loaded = λ setup m d g word n. g;
+  may_free = λ setup g n. false;
+  cleared = λ setup g. g;
+  may_store = λ setup g k v. ⊥;
+  stored = λ m g step k v. g;
+  begins = λ g k v. false;
+  may_exchange = λ setup g old new. ⊥;
 }
 
 pub holds_nothing : (places p : ℕ) (t : RefParts) → ¬ At {A = Option RefParts} (replicate places None) p (Some t)
@@ -55,12 +72,23 @@ least_cover_laws = record {
   enough = omega arith;
   many = refl;
   nothing = holds_nothing 3;
+  calm = refl;
   unstarted = (refl, refl, refl);
-  starts = λ key some. tt;
-  hands = λ key x i d era b g is h at guard may. tt;
-  links = λ key x i d era b is h at. tt;
-  takes = λ key x i d era b is h at. tt;
-  puts = λ key x i d era b n stamp g is h at guard may. tt;
-  reaches = λ key x d updates g q t is h at may. absurd may;
+  starts = λ setup some. tt;
+  hands = λ setup x i d generation b g is h at guard may. tt;
+  links = λ setup x i d generation b is h at. tt;
+  takes = λ setup x i d generation b is h at. tt;
+  puts = λ setup x i d generation b n stamp g is h at guard may. tt;
+  reaches = λ setup x d updates g q t is h at may. absurd may;
   reached = λ m g q t may. absurd may;
+  looks = λ setup x d step updates g safe h at begins. tt;
+  silent = refl;
+  loads = λ setup x d updates n g word safe h at is. tt;
+  loaded = λ setup x d updates n g word safe h at is. record { holds = λ p t e. inl e; many = refl; words = refl; start = record { taken_out = refl; updates = refl; step = refl }; waits = λ p r e. (e, refl) };
+  free_of = λ setup x i d generation b n stamp r g safe h at cell free. let none : ⊥ = cc in absurd none;
+  frees = λ setup x d g cells safe h at freed. tt;
+  cleared = λ setup g. record { holds = refl; waits = refl; words = refl; start = record { taken_out = refl; updates = refl; step = refl } };
+  stores = λ setup x d k v step updates g safe h at low may. absurd may;
+  stored = λ setup m g step k v may. absurd may;
+  exchanges = λ setup x d old new g safe h at may is. absurd may;
 }

@@ -1,5 +1,5 @@
 -- Steps on the words of roots and of records that a caller holds, and what its pass knows afterwards.
-use Rattle.std.specs.Prelude.{◌≡◌, ◌≢◌, ℕ, ◌+◌, ◌-◌, ◌<◌, ◌≤◌, List, [], ◌∷◌, ◌++◌, length, Bool, true, false, Option, Some, None, slice_index_or, slice_set, ◌==◌, if◌then◌else◌}
+use Rattle.std.specs.Prelude.{◌≡◌, ◌≢◌, ℕ, ◌+◌, ◌-◌, ◌<◌, ◌≤◌, List, [], ◌∷◌, ◌++◌, length, Bool, true, false, Option, Some, None, slice_index_or, slice_set, ◌==◌, ◌&&◌, if◌then◌else◌}
 use Rattle.set_model.specs.declared.calls.Call.{Call}
 use Rattle.set_model.specs.declared.calls.Call.TheVariants.{Insert, Remove, Search}
 use Rattle.set_model.specs.declared.calls.Update.{Update}
@@ -7,7 +7,7 @@ use Rattle.record_memory.specs.declared.steps.Word.TheVariants.{Field}
 use Rattle.record_memory.specs.declared.steps.StepKind.{StepKind}
 use Rattle.record_memory.specs.declared.steps.StepKind.TheVariants.{Load, Exchange}
 use Rattle.record_memory.specs.declared.steps.Step.{Step}
-use Rattle.record_memory.specs.declared.books.Key.{Key}
+use Rattle.record_memory.specs.declared.books.Setup.{Setup}
 use Rattle.record_memory.specs.declared.books.View.{View}
 use Rattle.record_memory.specs.declared.books.Book.{Book}
 use Rattle.record_memory.specs.declared.books.Note.{Note}
@@ -18,10 +18,11 @@ use Rattle.row_words.specs.Refs.{RefParts, LinkParts}
 use Rattle.row_words.specs.Packing.{link_in, packed_link, packed_number, own_in, IsPackedLink}
 use Rattle.record_rule.specs.Inputs.{start_of}
 use Rattle.record_rule.specs.Facts.{At, word_in, mark_bit, clean, Near, at_root, at_held, ShapeFacts, FitsNote, update_for, Reach, CoverFacts}
+use Rattle.record_rule.specs.Guards.{started_if}
 use Rattle.record_rule.specs.Laws.{root_at, with_update}
 use Rattle.record_rule.specs.Opening.{no_note}
-use Rattle.record_rule.specs.World.{StartsWith}
-use Rattle.record_rule.specs.Kinds.{share_in, idle, drawing_after, field_store}
+use Rattle.record_rule.specs.World.{StartsWith, IsRecent}
+use Rattle.record_rule.specs.Kinds.{retired_one, share_in, idle, drawing_after, field_store}
 
 -- the node that a step is on: a root by its number from 0, or the record that the caller holds at a place
 pub data Origin : Type 0 where
@@ -33,9 +34,9 @@ index_of (from_root n) = n + 1
 index_of (from_place p r) = r.index
 
 -- its generation
-abbrev pub era_at : Key → Origin → ℕ
-era_at key (from_root n) = key.first
-era_at key (from_place p r) = r.generation
+abbrev pub generation_at : Setup → Origin → ℕ
+generation_at setup (from_root n) = setup.first
+generation_at setup (from_place p r) = r.generation
 
 abbrev pub held_at : Origin → Option RefParts
 held_at (from_root n) = None
@@ -51,7 +52,7 @@ near_of v (from_place p r) = at_held r (note_in v.own.notes p)
 
 -- the table has the root, or the caller holds the record there
 abbrev pub Holds : View → Origin → Type 0
-Holds v (from_root n) = n < v.key.roots
+Holds v (from_root n) = n < v.setup.roots
 Holds v (from_place p r) = At v.own.guard.holds p (Some r)
 
 -- what a caller knows of a node's body agrees with it
@@ -64,12 +65,12 @@ pub data IsNextOf (v : View) : Option RefParts → Option Near → Type 0 where
   at_end : IsNextOf v None None
   at_place : (p : ℕ) (r : RefParts) → Holds v (from_place p r) → IsNextOf v (Some r) (Some (near_of v (from_place p r)))
 
--- a step decides no search
-abbrev pub IsDecision : Option Call → Type 0
-IsDecision None = Unit {0}
-IsDecision (Some (Insert k)) = Unit {0}
-IsDecision (Some (Remove k)) = Unit {0}
-IsDecision (Some (Search k)) = ⊥
+-- a step may decide the caller's call where no other caller may, and decides no search
+abbrev pub Decides : ShapeFacts → View → Option Call → Type 0
+Decides s v None = Unit {0}
+Decides s v (Some (Insert k)) = s.helped → v.own.offer ≡ None
+Decides s v (Some (Remove k)) = s.helped → v.own.offer ≡ None
+Decides s v (Some (Search k)) = ⊥
 
 -- a step on word f of the node, which found and left these
 abbrev pub node_step : View → StepKind → Origin → ℕ → ℕ → ℕ → Step
@@ -81,18 +82,21 @@ with_step b records t = record b { steps = b.steps ++ t ∷ []; drawing = drawin
 
 -- the pass has seen the two whole lists
 abbrev pub seeing : View → List Update → List RefParts → Book → View
-seeing v updates removals own = record v { own = own; noted_updates = updates; noted_removals = removals }
+seeing v updates taken_out own = record v { own = own; seen_updates = updates; seen_taken_out = taken_out }
 
--- what it had seen of them begins them
-pub record AreWhole (v : View) (updates : List Update) (removals : List RefParts) : Type 0 where
+-- what it had seen of them begins them, and that reaches to the start of its caller's guard and to where each record was reached that its caller knows something of
+pub record AreWhole (v : View) (updates : List Update) (taken_out : List RefParts) : Type 0 where
   pub front : StartsWith updates v.front
-  pub seen_updates : StartsWith updates v.noted_updates
-  pub seen_removals : StartsWith removals v.noted_removals
+  pub seen_updates : StartsWith updates v.seen_updates
+  pub seen_taken_out : StartsWith taken_out v.seen_taken_out
+  pub recent : IsRecent (length v.seen_updates) (length v.seen_taken_out) v.own.guard v.own.notes
 
 -- The key of a held record is loaded: it is the one that is known
 pub record LoadedKey (v : View) (p : ℕ) (r : RefParts) (n : ℕ) (w : View) : Type 0 where
   pub known : At (note_in v.own.notes p).words 1 (Some n)
-  pub view : w ≡ record v { own = with_step v.own v.key.records (node_step v Load (from_place p r) 4 n n) }
+  -- under the generation by which it is held
+  pub own : own_in n ≡ r.generation
+  pub view : w ≡ record v { own = with_step v.own v.setup.records (node_step v Load (from_place p r) 4 n n) }
 
 -- word f of a held record is noted, where it is settled
 abbrev pub note_word : Note → ℕ → ℕ → Note
@@ -105,20 +109,32 @@ noting false notes o f n = notes
 
 -- What one load of a link that found n shows, where so many updates took effect: the node's body, and what the set says of such a load
 pub record Saw (s : ShapeFacts) (v : View) (o : Origin) (f n : ℕ) (target : Option (List ℕ)) (updates : List Update) : Type 0 where
+  -- the table is for this set
+  pub set_is : v.setup.set ≡ s.name
   pub body : List ℕ
   pub word : word_in body f ≡ n
   pub fits : FitsBody s (near_of v o) body
   pub marked : ℕ
-  pub shown : s.shown v.key (record { node = root_at s (near_of v o); body = body; field = f; target = target; marked = marked; start = start_of v.own.guard }) updates
+  pub shown : s.shown v.setup (record { node = root_at s (near_of v o); body = body; field = f; target = target; marked = marked; start = start_of v.own.guard }) updates
 
--- A link is loaded
-pub record LoadedLink (s : ShapeFacts) (v : View) (o : Origin) (f n : ℕ) (w : View) : Type 0 where
-  pub updates : List Update
-  pub removals : List RefParts
-  pub whole : AreWhole v updates removals
-  pub saw : Saw s v o f n None updates
+-- what is kept of the roots, once a guard starts or goes on
+abbrev pub roots_kept : Bool → List (List ℕ) → List (List ℕ)
+roots_kept true roots = []
+roots_kept false roots = roots
+
+-- A link is loaded: the pass notes the updates up to this load, and what the load shows is so of just these. A guard starts with its first load, where the reclaimer has guards start so
+pub record LoadedLink (s : ShapeFacts) (c : CoverFacts) (v : View) (o : Origin) (f : ℕ) (first : Bool) (n : ℕ) (w : View) : Type 0 where
+  pub whole : AreWhole v w.seen_updates w.seen_taken_out
+  pub saw : Saw s v o f n None w.seen_updates
   pub link : IsPackedLink n
-  pub view : w ≡ seeing v updates removals (record (with_step v.own v.key.records (node_step v Load o f n n)) { notes = noting (s.settled f saw.body) v.own.notes o f n })
+  -- under the node's generation
+  pub own : own_in n ≡ generation_at v.setup o
+  pub epoch : ℕ
+  pub view : w ≡ seeing v w.seen_updates w.seen_taken_out (record (with_step v.own v.setup.records (node_step v Load o f n n)) {
+    guard = started_if (c.begins_loading && first) (record { epoch = epoch; taken_out = length w.seen_taken_out; updates = length w.seen_updates }) v.own.guard (length v.own.steps + 1);
+    notes = noting (s.settled f saw.body) v.own.notes o f n;
+    root_notes = roots_kept (c.begins_loading && first) v.own.root_notes;
+  })
 
 -- the record that a caller may hold once it loaded this link: its target, unless the node is marked
 abbrev pub target_of : LinkParts → Option RefParts
@@ -130,31 +146,32 @@ settled_word s body f = if s.settled f body then Some (word_in body f) else None
 
 abbrev pub note_of : ShapeFacts → Option (List ℕ) → ℕ → Note
 note_of s None updates = no_note
-note_of s (Some body) updates = record { words = settled_word s body 3 ∷ settled_word s body 4 ∷ settled_word s body 5 ∷ settled_word s body 6 ∷ settled_word s body 7 ∷ []; reached_at = updates }
+note_of s (Some body) updates = record { words = settled_word s body 3 ∷ settled_word s body 4 ∷ settled_word s body 5 ∷ settled_word s body 6 ∷ settled_word s body 7 ∷ []; reached_at = updates; kept = [] }
 
 -- the target was found there where there is one
 abbrev pub IsFound : Option RefParts → Option (List ℕ) → Type 0
 IsFound None body = body ≡ None
 IsFound (Some t) body = (b : List ℕ) × (body ≡ Some b)
 
--- A link is loaded to reach what it leads to
+-- A link is loaded to reach what it leads to: the pass notes the updates up to this load, what the load shows is so of just these, and so many stand in the note of what it reaches
 pub record ReachedLink (s : ShapeFacts) (c : CoverFacts) (v : View) (o : Origin) (f : ℕ) (q : Reach) (n : ℕ) (w : View) : Type 0 where
-  pub updates : List Update
-  pub removals : List RefParts
-  pub whole : AreWhole v updates removals
+  pub whole : AreWhole v w.seen_updates w.seen_taken_out
   pub target : Option (List ℕ)
   pub found : IsFound (target_of (link_in n)) target
-  pub within : (t : RefParts) → target_of (link_in n) ≡ Some t → t.index ≤ v.key.records
+  pub within : (t : RefParts) → target_of (link_in n) ≡ Some t → t.index ≤ v.setup.records
   -- the guard has its places, each with a note, and started before
   pub many : length v.own.guard.holds ≡ c.places
   pub noted : length v.own.notes ≡ c.places
   pub late : v.own.guard.start_step ≤ length v.own.steps
-  pub saw : Saw s v o f n target updates
+  pub saw : Saw s v o f n target w.seen_updates
   pub link : IsPackedLink n
+  -- under the node's generation
+  pub own : own_in n ≡ generation_at v.setup o
   pub epoch : ℕ
-  pub view : w ≡ seeing v updates removals (record (with_step v.own v.key.records (node_step v Load o f n n)) {
-    guard = c.reached (record { epoch = epoch; removals = length removals; updates = length updates }) v.own.guard q (target_of (link_in n));
-    notes = slice_set v.own.notes q.place (note_of s target (length updates));
+  pub view : w ≡ seeing v w.seen_updates w.seen_taken_out (record (with_step v.own v.setup.records (node_step v Load o f n n)) {
+    guard = c.reached (record { epoch = epoch; taken_out = length w.seen_taken_out; updates = length w.seen_updates }) v.own.guard q (target_of (link_in n));
+    notes = slice_set v.own.notes q.place (note_of s target (length w.seen_updates));
+    root_notes = roots_kept (c.begins_loading && q.first) v.own.root_notes;
   })
 
 -- the entry of a call that a step decides when so many updates took effect
@@ -173,83 +190,85 @@ own_update v call = update_for v.own.caller (length v.own.answered + 1) call
 
 -- the pass after a step that leaves a link and may decide a call
 abbrev pub decided : View → List Update → List RefParts → Option Call → Book → View
-decided v updates removals call own = record v {
+decided v updates taken_out call own = record v {
   own = record own { answered = v.own.answered ++ entry_for (length updates) call };
   front = front_for v.front (with_update updates (own_update v call)) call;
-  noted_updates = with_update updates (own_update v call);
-  noted_removals = removals;
+  seen_updates = with_update updates (own_update v call);
+  seen_taken_out = taken_out;
 }
 
 -- an exchange of a link was refused: the word held another link
 pub record RefusedLink (v : View) (o : Origin) (f n : ℕ) (w : View) : Type 0 where
   pub link : IsPackedLink n
   -- under the node's generation
-  pub own : own_in n ≡ era_at v.key o
-  pub view : w ≡ record v { own = with_step v.own v.key.records (node_step v Exchange o f n n) }
+  pub own : own_in n ≡ generation_at v.setup o
+  pub view : w ≡ record v { own = with_step v.own v.setup.records (node_step v Exchange o f n n) }
 
 -- the two values of the word in an exchange between links
-abbrev pub link_word : Key → Origin → LinkParts → ℕ
-link_word key o l = packed_link (era_at key o) l
+abbrev pub link_word : Setup → Origin → LinkParts → ℕ
+link_word setup o l = packed_link (generation_at setup o) l
 
 -- An exchange of a link is made
 pub record ExchangedLink (s : ShapeFacts) (v : View) (o : Origin) (f : ℕ) (old new : LinkParts) (call : Option Call) (w : View) : Type 0 where
   pub updates : List Update
-  pub removals : List RefParts
-  pub whole : AreWhole v updates removals
+  pub taken_out : List RefParts
+  pub whole : AreWhole v updates taken_out
   -- the node's body afterwards
   pub body : List ℕ
-  pub word : word_in body f ≡ link_word v.key o new
-  pub view : w ≡ decided v updates removals call (record (with_step v.own v.key.records (node_step v Exchange o f (link_word v.key o old) (link_word v.key o new))) { notes = noting (s.settled f body) v.own.notes o f (link_word v.key o new) })
+  pub word : word_in body f ≡ link_word v.setup o new
+  pub view : w ≡ decided v updates taken_out call (record (with_step v.own v.setup.records (node_step v Exchange o f (link_word v.setup o old) (link_word v.setup o new))) { notes = noting (s.settled f body) v.own.notes o f (link_word v.setup o new) })
 
 -- What an exchange of a link tells, which found n
 pub record ToldExchange (s : ShapeFacts) (v : View) (o : Origin) (f : ℕ) (old new : LinkParts) (call : Option Call) (n : ℕ) (w : View) : Type 0 where
-  pub made : n ≡ link_word v.key o old → ExchangedLink s v o f old new call w
-  pub refused : n ≢ link_word v.key o old → RefusedLink v o f n w
+  pub made : n ≡ link_word v.setup o old → ExchangedLink s v o f old new call w
+  pub refused : n ≢ link_word v.setup o old → RefusedLink v o f n w
 
 -- An own record is linked behind the node
 pub record PublishedLink (s : ShapeFacts) (v : View) (o : Origin) (f : ℕ) (old : LinkParts) (own : RefParts) (call : Option Call) (w : View) : Type 0 where
   pub updates : List Update
-  pub removals : List RefParts
-  pub whole : AreWhole v updates removals
+  pub taken_out : List RefParts
+  pub whole : AreWhole v updates taken_out
   pub body : List ℕ
-  pub word : word_in body f ≡ link_word v.key o (clean own)
-  pub view : w ≡ decided v updates removals call (record (with_step v.own v.key.records (node_step v Exchange o f (link_word v.key o old) (link_word v.key o (clean own)))) {
+  pub word : word_in body f ≡ link_word v.setup o (clean own)
+  pub view : w ≡ decided v updates taken_out call (record (with_step v.own v.setup.records (node_step v Exchange o f (link_word v.setup o old) (link_word v.setup o (clean own)))) {
     mine = slice_set v.own.mine (own.index - 1) None;
-    notes = noting (s.settled f body) v.own.notes o f (link_word v.key o (clean own));
+    notes = noting (s.settled f body) v.own.notes o f (link_word v.setup o (clean own));
   })
 
 pub record ToldPublish (s : ShapeFacts) (v : View) (o : Origin) (f : ℕ) (old : LinkParts) (own : RefParts) (call : Option Call) (n : ℕ) (w : View) : Type 0 where
-  pub made : n ≡ link_word v.key o old → PublishedLink s v o f old own call w
-  pub refused : n ≢ link_word v.key o old → RefusedLink v o f n w
+  pub made : n ≡ link_word v.setup o old → PublishedLink s v o f old own call w
+  pub refused : n ≢ link_word v.setup o old → RefusedLink v o f n w
 
 -- A held record is taken out behind the node
 pub record UnlinkedRecord (s : ShapeFacts) (v : View) (o : Origin) (f : ℕ) (gone : RefParts) (new : LinkParts) (w : View) : Type 0 where
   pub updates : List Update
-  pub removals : List RefParts
-  pub whole : AreWhole v updates removals
+  pub taken_out : List RefParts
+  pub whole : AreWhole v updates taken_out
   pub body : List ℕ
-  pub word : word_in body f ≡ link_word v.key o new
+  pub word : word_in body f ≡ link_word v.setup o new
   -- the first three words of the record that was taken out
   pub words : List ℕ
   pub three : length words ≡ 3
   -- the caller's book has an entry for it, as for each record
-  pub within : gone.index ≤ v.key.records
-  pub mine : length v.own.mine ≡ v.key.records
-  pub view : w ≡ seeing v updates (removals ++ gone ∷ []) (record (with_step v.own v.key.records (node_step v Exchange o f (link_word v.key o (clean gone)) (link_word v.key o new))) {
-    mine = slice_set v.own.mine (gone.index - 1) (Some (record { standing = TakenOut; era = gone.generation; removed = length removals; words = words }));
-    notes = noting (s.settled f body) v.own.notes o f (link_word v.key o new);
+  pub within : gone.index ≤ v.setup.records
+  pub mine : length v.own.mine ≡ v.setup.records
+  -- which said nothing of it before
+  pub none : share_in v gone.index ≡ None
+  pub view : w ≡ seeing v updates (taken_out ++ gone ∷ []) (record (with_step v.own v.setup.records (node_step v Exchange o f (link_word v.setup o (clean gone)) (link_word v.setup o new))) {
+    mine = slice_set v.own.mine (gone.index - 1) (Some (record { standing = TakenOut; generation = gone.generation; taken_number = length taken_out; words = words }));
+    notes = noting (s.settled f body) v.own.notes o f (link_word v.setup o new);
   })
 
 pub record ToldUnlink (s : ShapeFacts) (v : View) (o : Origin) (f : ℕ) (gone : RefParts) (new : LinkParts) (n : ℕ) (w : View) : Type 0 where
-  pub made : n ≡ link_word v.key o (clean gone) → UnlinkedRecord s v o f gone new w
-  pub refused : n ≢ link_word v.key o (clean gone) → RefusedLink v o f n w
+  pub made : n ≡ link_word v.setup o (clean gone) → UnlinkedRecord s v o f gone new w
+  pub refused : n ≢ link_word v.setup o (clean gone) → RefusedLink v o f n w
 
 -- the caller took the record out and didn't retire it
 pub record HasTaken (v : View) (r : RefParts) (share : Share) : Type 0 where
-  pub within : r.index ≤ v.key.records
+  pub within : r.index ≤ v.setup.records
   pub known : share_in v r.index ≡ Some share
   pub standing : share.standing ≡ TakenOut
-  pub era : share.era ≡ r.generation
+  pub generation : share.generation ≡ r.generation
   pub three : length share.words ≡ 3
 
 -- A record that was taken out is retired: its stamp is stored
@@ -257,7 +276,7 @@ abbrev pub retired_share : Share → ℕ → Share
 retired_share h value = record h { standing = Limbo; words = slice_set h.words 2 value }
 
 abbrev pub retired_with : View → RefParts → Share → ℕ → View
-retired_with v r h value = record v { own = record (with_step v.own v.key.records (field_store v r.index 2 value h)) { mine = slice_set v.own.mine (r.index - 1) (Some (retired_share h value)) } }
+retired_with v r h value = record v { own = record (with_step v.own v.setup.records (field_store v r.index 2 value h)) { mine = slice_set v.own.mine (r.index - 1) (Some (retired_share h value)); moves = retired_one v.own.moves } }
 
 abbrev pub retired : View → RefParts → Share → ℕ → View
 retired v r h stamp = retired_with v r h (packed_number r.generation stamp)

@@ -5,9 +5,9 @@ use Rattle.record_memory.specs.declared.books.View.{View}
 use Rattle.record_rule.specs.World.{StartsWith}
 use Rattle.record_rule.specs.Splits.{spent}
 
--- a note that carries a front from one pass to another, and no book
-abbrev pub note : List Update → View
-note front = record spent { front = front }
+-- a message that carries a front from one pass to another, and no book
+abbrev pub message : List Update → View
+message front = record spent { front = front }
 
 abbrev pub same_update : Update → Update → Bool
 same_update a b = (a.caller == b.caller) && ((a.number == b.number) && ((a.key == b.key) && (if a.added then b.added else not b.added)))
@@ -22,14 +22,14 @@ begins (x ∷ xs) (y ∷ ys) = same_update x y && begins xs ys
 abbrev pub heard_by : Bool → Bool → View → List Update → View
 heard_by true c v front = record v { front = front }
 heard_by false true v front = v
-heard_by false false v front = record v { noted_updates = front }
+heard_by false false v front = record v { seen_updates = front }
 
 abbrev pub heard : View → List Update → View
 heard v front = heard_by (begins v.front front) (begins front v.front) v front
 
 -- of the updates that the pass knows by its front and by its steps, one list begins the other
 abbrev pub IsOneHistory : View → Type 0
-IsOneHistory v = StartsWith v.noted_updates v.front ⊎ StartsWith v.front v.noted_updates
+IsOneHistory v = StartsWith v.seen_updates v.front ⊎ StartsWith v.front v.seen_updates
 
 -- the pass has taken up a front: its own now begins with both, and is one of them; nothing else that it knows changed
 pub record HasMet (before : View) (front : List Update) (after : View) : Type 0 where

@@ -1,7 +1,9 @@
 -- What two passes know after one was split off, and what a pass knows that another was joined into.
 use Rattle.std.specs.Prelude.{List, [], ◌∷◌, ◌++◌, length, nat_lt, if◌then◌else◌, None, false}
+use Rattle.set_model.specs.declared.names.SetName.TheVariants.{Plain}
+use Rattle.set_model.specs.declared.names.ReclaimerName.TheVariants.{Nothing}
 use Rattle.set_model.specs.declared.names.AllocatorName.TheVariants.{Bump}
-use Rattle.record_memory.specs.declared.books.Key.{Key}
+use Rattle.record_memory.specs.declared.books.Setup.{Setup}
 use Rattle.record_memory.specs.declared.books.View.{View}
 use Rattle.record_memory.specs.declared.books.Book.{Book}
 use Rattle.record_memory.specs.declared.books.Guard.{Guard}
@@ -33,16 +35,16 @@ abbrev pub joined : View → View → View
 joined v w = record v {
   others = v.others ++ carries w;
   front = longer v.front w.front;
-  noted_updates = longer v.noted_updates w.noted_updates;
-  noted_removals = longer v.noted_removals w.noted_removals;
+  seen_updates = longer v.seen_updates w.seen_updates;
+  seen_taken_out = longer v.seen_taken_out w.seen_taken_out;
 }
 
 -- what is left of a pass that was joined into another
-abbrev pub no_key : Key
-no_key = record { records = 0; roots = 0; callers = 0; first = 0; allocator = Bump }
+abbrev pub no_setup : Setup
+no_setup = record { records = 0; roots = 0; callers = 0; first = 0; set = Plain; reclaimer = Nothing; allocator = Bump }
 
 abbrev pub no_guard : Guard
-no_guard = record { inside = false; start_removals = 0; start_updates = 0; start_step = 0; holds = []; pending = None; epoch = 0; readings = []; reading_removals = 0; scan_place = 0; loaded = [] }
+no_guard = record { active = false; start_taken_out = 0; start_updates = 0; start_step = 0; announced = []; holds = []; pending = None; epoch = 0; readings = []; reading_taken_out = 0; scan_place = 0; loaded = [] }
 
 abbrev pub spent : View
-spent = record { key = no_key; present = false; alone = false; own = first_book no_key no_guard 0; others = []; front = []; noted_updates = []; noted_removals = [] }
+spent = record { setup = no_setup; present = false; alone = false; own = first_book no_setup no_guard 0; others = []; front = []; seen_updates = []; seen_taken_out = [] }

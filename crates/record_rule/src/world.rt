@@ -1,28 +1,47 @@
 // The rule, and what it takes from a set and from a reclaimer.
 use atomic_table::TableRule;
-use record_memory::{Key, View};
+use record_memory::{Setup, View};
+use set_model::{ReclaimerName, SetName};
 use std::marker::PhantomData;
 
 /// What a concurrent structure is made of: which records are linked, which keys they stand for, and
 /// which steps are lawful. It has no function that runs.
 pub trait Shape {
+    ghost use Rattle.std.specs.Prelude.{◌≡◌};
+    ghost use Rattle.set_model.specs.declared.names.SetName.{SetName};
     ghost use Rattle.record_rule.specs.Facts.{ShapeFacts};
     ghost use Rattle.record_rule.specs.Laws.{ShapeLaws};
+
+    /// The set's name, which its tables are made with.
+    const NAME: SetName;
+
+    ghost NAME: { SetName };
 
     ghost facts: { ShapeFacts };
 
     ghost laws: { ShapeLaws facts };
+
+    ghost named: { facts.name ≡ NAME };
 }
 
 /// What a reclaimer covers: which records no caller frees while a guard may reach them, and which
 /// facts keep that. It has no function that runs.
 pub trait Cover {
+    ghost use Rattle.std.specs.Prelude.{◌≡◌};
+    ghost use Rattle.set_model.specs.declared.names.ReclaimerName.{ReclaimerName};
     ghost use Rattle.record_rule.specs.Facts.{CoverFacts};
     ghost use Rattle.record_rule.specs.Laws.{CoverLaws};
+
+    /// The reclaimer's name, which its tables are made with.
+    const NAME: ReclaimerName;
+
+    ghost NAME: { ReclaimerName };
 
     ghost facts: { CoverFacts };
 
     ghost laws: { CoverLaws facts };
+
+    ghost named: { facts.name ≡ NAME };
 }
 
 /// The rule of the one table.
@@ -30,11 +49,11 @@ pub struct World<S, R> {
     marker: PhantomData<(S, R)>,
 }
 
-impl<S: Shape, R: Cover> TableRule<(), View, Key> for World<S, R> {
+impl<S: Shape, R: Cover> TableRule<(), View, Setup> for World<S, R> {
     ghost use Rattle.record_rule.specs.World.{Rule};
     ghost use Rattle.record_rule.specs.Opening.{first_view};
 
-    ghost holds = { λ key. Rule S.facts R.facts key };
+    ghost holds = { λ setup. Rule S.facts R.facts setup };
 
     ghost first = { first_view R.facts.first };
 }

@@ -11,7 +11,7 @@ use Rattle.record_rule.specs.Splits.{joined}
 use Rattle.record_rule.proofs.Rebuilt.{carries_own}
 use Rattle.record_table.specs.declared.table.Table.{Table}
 use Rattle.record_table.specs.declared.passes.Pass.{Pass}
-use Rattle.record_table.specs.Handles.{key_of, view}
+use Rattle.record_table.specs.Handles.{setup_of, view}
 use Rattle.record_table.specs.Made.{IsFresh, AreFreshFrom, AreFreshPasses}
 use Rattle.record_rule.proofs.Lists.{at_below, get_at}
 use Rattle.record_table.specs.Closing.{own_book, own_caller, numbers_from, IsWholePassOf, AreAllPasses}
@@ -50,10 +50,11 @@ module _ {S R : Type 0} (t : Table S R) where
   pub last_all : (callers : List ℕ) (all xs : List (Pass S R)) (v : View) → length xs ≡ 0 → carries v ++ map own_book (reverse xs) ≡ map own_book all → map own_caller all ≡ callers → map (λ (b : Book). b.caller) (carries v) ≡ callers
   last_all callers all xs v none is numbers = ap (map (λ (b : Book). b.caller)) (sym (append-nil (carries v)) ∙ ap (λ l. carries v ++ map own_book (reverse l)) (sym (nil_from_length xs none)) ∙ is) ∙ sym (map_own all) ∙ numbers
 
-  tail_fresh : (first : Guard) (from : ℕ) (p : Pass S R) (ps : List (Pass S R)) → AreFreshFrom t first from (p ∷ ps) → AreFreshFrom t first (from + 1) ps
+  pub tail_fresh : (first : Guard) (from : ℕ) (p : Pass S R) (ps : List (Pass S R)) → AreFreshFrom t first from (p ∷ ps) → AreFreshFrom t first (from + 1) ps
   tail_fresh first from p ps f = record {
     each_pass = λ k q e. f.each_pass (suc k) q e;
-    each_view = λ k q e. subst (λ (z : ℕ). IsFresh (key_of t) first z (view q)) (let z : from + suc k ≡ from + 1 + k = omega arith in z) (f.each_view (suc k) q e);
+    each_outside = λ k q e. f.each_outside (suc k) q e;
+    each_view = λ k q e. subst (λ (z : ℕ). IsFresh (setup_of t) first z (view q)) (let z : from + suc k ≡ from + 1 + k = omega arith in z) (f.each_view (suc k) q e);
   }
 
   fresh_numbers : (first : Guard) (from : ℕ) (ps : List (Pass S R)) → AreFreshFrom t first from ps → map own_caller ps ≡ numbers_from from (length ps)

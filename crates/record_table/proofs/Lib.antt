@@ -4,8 +4,9 @@ pub mod Copies
 pub mod Closings
 pub mod Ended
 pub mod SamePass
-pub mod SameViews
+pub mod Recording
+pub mod Started
 pub mod InTable
 pub mod LinkWords
-pub mod Retiring
+pub mod Stamping
 pub mod Sending

@@ -1,7 +1,7 @@
 pub mod Handles
+pub mod Recording
 pub mod Meeting
 pub mod Made
 pub mod Closing
-pub mod Places
 pub mod Nodes
 pub mod ToldLinks

@@ -2,49 +2,46 @@
 ghost use Rattle.std.specs.Prelude.{◌≡◌, ◌+◌, ◌<◌, ◌≤◌, ℕ, List, Some, slice_index_or, slice_set};
 ghost use Rattle.record_memory.specs.declared.books.Share.{Share};
 ghost use Rattle.record_memory.specs.declared.books.Standing.TheVariants.{Own as OwnStanding, Spare};
-ghost use Rattle.row_words.specs.Packing.{own_in, IsPackedLink};
-ghost use Rattle.record_rule.specs.Kinds.{idle, share_in, IsKnown};
+ghost use Rattle.row_words.specs.Packing.{own_in};
+ghost use Rattle.record_rule.specs.Records.{IsLinkIn};
+ghost use Rattle.record_rule.specs.Kinds.{idle, share_in, IsKnown, IsOver};
 ghost use Rattle.record_rule.specs.HandingOut.{HasOwn, IsOwnOf};
 ghost use Rattle.record_rule.specs.Asides.{put_aside, took_spare, chain_word, next_in, HasSpare, IsSpareOf};
-ghost use Rattle.record_table.specs.Handles.{key_of, view, IsPassOf, IsSamePass};
+ghost use Rattle.record_table.specs.Handles.{setup_of, view, IsPassOf, IsSamePass};
 
 use crate::hand_out::Own;
 use crate::passes::Pass;
-use crate::plays::{SetsAside, TakesSpare};
 use crate::table::Table;
+use record_memory::CHAIN;
 use record_rule::{Cover, Shape};
 use row_words::{Link, Ref, link_of, pack_link};
-
-// The word of a row through which chains go.
-const CHAIN: u32 = 1;
+use std::marker::Brand;
 
 impl<S: Shape, R: Cover> Table<S, R> {
     // Stores the chain word of an own record, which is spare from then on.
     fn store_aside(&self, pass: &mut Pass<S, R>, index: u32, value: u64)
         requires pass { IsPassOf self.now pass.old }
-        requires index { (0 < index) × (index ≤ (key_of self.now).records) }
-        requires own { (h : Share) × (share_in (view pass.old) index ≡ Some h) × (h.standing ≡ OwnStanding) × (own_in value ≡ h.era) }
-        requires link { IsPackedLink value }
+        requires index { (0 < index) × (index ≤ (setup_of self.now).records) }
+        requires own { (h : Share) × (share_in (view pass.old) index ≡ Some h) × (h.standing ≡ OwnStanding) × (own_in value ≡ h.generation) }
+        requires link { IsLinkIn 1 value }
         ensures pass { IsSamePass pass.old pass.new }
         ensures step { view pass.new ≡ put_aside (view pass.old) index value }
     {
-        let word = self.place_of(index, CHAIN);
-        self.board
-            .shared
-            .store::<SetsAside>(&mut pass.seat, word, value);
+        let word = self.address_of(index, CHAIN);
+        self.store::<Brand, _>(pass, word, value, &index);
     }
 
     // Loads the chain word of a spare record, which is own from then on.
     fn load_spare(&self, pass: &mut Pass<S, R>, index: u32) -> u64
         requires pass { IsPassOf self.now pass.old }
-        requires index { (0 < index) × (index ≤ (key_of self.now).records) }
+        requires index { (0 < index) × (index ≤ (setup_of self.now).records) }
         requires spare { (h : Share) × (share_in (view pass.old) index ≡ Some h) × (h.standing ≡ Spare) }
         ensures pass { IsSamePass pass.old pass.new }
         ensures step { view pass.new ≡ took_spare (view pass.old) index result }
         ensures found { IsKnown (view pass.old) index 1 result }
     {
-        let word = self.place_of(index, CHAIN);
-        self.board.shared.load::<TakesSpare>(&mut pass.seat, word)
+        let word = self.address_of(index, CHAIN);
+        self.load::<Brand, _>(pass, word, &index)
     }
 }
 
@@ -62,11 +59,7 @@ impl<S: Shape, R: Cover> Table<S, R> {
         ensures idle { idle (view pass.new).own ≡ idle (view pass.old).own + 1 }
     {
         let Own { record } = own;
-        let link = Link {
-            flags: 0,
-            target: next,
-        };
-        let value = pack_link(record.generation.get(), link);
+        let value = pack_link(record.generation.get(), Link::to(next));
         self.store_aside(pass, record.index, value);
         record
     }

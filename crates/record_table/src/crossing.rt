@@ -3,6 +3,7 @@ ghost use Rattle.std.specs.Prelude.{◌≡◌};
 ghost use Rattle.record_table.specs.Handles.{view, IsPassOf, IsSamePass};
 
 use crate::{Cover, Pass, Shape, Table};
+use record_memory::EPOCH;
 use std::thread;
 use std::thread::Threads;
 
@@ -22,6 +23,6 @@ fn look<S: Shape, R: Cover>(table: &Table<S, R>, mut pass: Pass<S, R>) -> Pass<S
     requires { IsPassOf table.now pass }
     ensures { IsSamePass pass result }
 {
-    let _epoch = table.load_control(&mut pass, 1);
+    let _epoch = table.load_control(&mut pass, EPOCH);
     pass
 }

@@ -3,6 +3,7 @@ ghost use Rattle.std.specs.Prelude.{◌≡◌, ◌<◌, ◌^◌};
 
 use crate::passes::Pass;
 use crate::table::Table;
+use record_memory::{BIRTH, CHAIN, OF_RECORD};
 use record_rule::{Cover, Shape};
 use row_words::{Ref, pack_number};
 use std::marker::Model;
@@ -50,8 +51,8 @@ impl<S: Shape, R: Cover> Table<S, R> {
     {
         let index = r.index;
         let own = r.generation.get();
-        self.store_field(pass, index, 0, pack_number(own, birth));
-        for field in 1..8u32 {
+        self.store_field(pass, index, BIRTH, pack_number(own, birth));
+        for field in CHAIN..OF_RECORD {
             self.store_field(pass, index, field, pack_number(own, 0));
         }
         Own { record: r }
@@ -80,6 +81,6 @@ impl<S: Shape, R: Cover> Table<S, R> {
     {
         let record = own.record;
         let value = pack_number(record.generation.get(), payload);
-        self.store_field(pass, record.index, u32::from(word), value);
+        self.store_field(pass, record.index, word, value);
     }
 }

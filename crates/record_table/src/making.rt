@@ -1,16 +1,15 @@
 // Making a table with its passes.
 ghost use Rattle.std.specs.Prelude.{◌≡◌, ◌↔◌, ◌⊎◌, ◌<◌, ◌≤◌, IfOk, Err, length};
-ghost use Rattle.record_rule.specs.Records.{IsKey};
-ghost use Rattle.record_table.specs.Handles.{key_of};
+ghost use Rattle.record_rule.specs.Records.{IsSetup};
+ghost use Rattle.record_table.specs.Handles.{setup_of};
 ghost use Rattle.record_table.specs.Closing.{AreAllPasses};
-ghost use Rattle.record_table.specs.Made.{AreFreshPasses, key_with, AreBadRecords, AreBadCallers};
+ghost use Rattle.record_table.specs.Made.{AreFreshPasses, setup_with, AreBadRecords, AreBadCallers};
 
 use crate::opening::laid_words;
 use crate::passes::{Gives, Pass};
 use crate::table::Table;
-use atomic_table::Table as Board;
-use record_memory::{Key, View};
-use record_rule::{Cover, Shape, World};
+use record_memory::Setup;
+use record_rule::{Cover, Shape};
 use row_words::Generation;
 use set_model::AllocatorName;
 use std::alloc::{AllocError, AllocFailed, Global};
@@ -23,9 +22,6 @@ const MOST_RECORDS: u32 = 1_048_575;
 
 /// The greatest number of callers.
 const MOST_CALLERS: u32 = 16;
-
-/// A reclaimer: what a record manager calls to enter and leave guards and to retire records.
-pub trait Scheme: Cover {}
 
 /// Why a table isn't made.
 #[derive(Debug, PartialEq, Eq, Drop, Error)]
@@ -46,8 +42,8 @@ impl<S: Shape, R: Cover> Table<S, R> {
     ghost use Rattle.record_memory.specs.declared.books.Book.{Book};
     ghost use Rattle.record_rule.specs.Opening.{first_view};
     ghost use Rattle.record_rule.specs.Splits.{split_left, split_right};
-    ghost use Rattle.record_table.specs.Handles.{key_of, view, IsPassOf, IsSamePass};
-    ghost use Rattle.record_table.specs.Made.{AreFreshPasses};
+    ghost use Rattle.record_table.specs.Handles.{setup_of, view, IsPassOf, IsSamePass};
+    ghost use Rattle.record_table.specs.Made.{AreFreshPasses, IsOutside};
 
     // Gives the first book that isn't the pass's own to a new pass, which is that caller's.
     fn split_pass(&self, pass: &mut Pass<S, R>, caller: u32) -> Pass<S, R>
@@ -57,8 +53,9 @@ impl<S: Shape, R: Cover> Table<S, R> {
         ensures left { view pass.new ≡ split_left (view pass.old) }
         ensures new { IsPassOf self.now result }
         ensures right { view result ≡ split_right (view pass.old) }
+        ensures outside { IsOutside result }
     {
-        let seat = self.board.shared.split_seat::<Gives>(&mut pass.seat);
+        let seat = self.split::<Gives>(&mut pass.seat);
         Pass {
             since: Snapshot::of(&seat),
             inside: Snapshot::of(&false),
@@ -71,14 +68,16 @@ impl<S: Shape, R: Cover> Table<S, R> {
     // The passes of all callers, split off caller 0's in order of number.
     fn split_all(&self, alloc: Global, mut first: Pass<S, R>) -> Result<Vec<Pass<S, R>>, AllocError>
         requires pass { IsPassOf self.now first }
-        requires first { view first ≡ first_view R.facts.first (key_of self.now) }
+        requires first { view first ≡ first_view R.facts.first (setup_of self.now) }
         ensures { IfOk result (λ passes. AreFreshPasses self.now R.facts.first passes.items) }
     {
-        let mut passes = Vec::with_capacity(alloc, self.key.callers as usize)?;
-        for caller in 1..self.key.callers {
+        let mut passes = Vec::with_capacity(alloc, self.setup.callers as usize)?;
+        for caller in 1..self.setup.callers {
             let pass = self.split_pass(&mut first, caller);
             passes.push(pass)?;
         }
+        first.since = Snapshot::of(&first.seat);
+        first.inside = Snapshot::of(&false);
         passes.insert(0, first)?;
         Ok(passes)
     }
@@ -87,27 +86,19 @@ impl<S: Shape, R: Cover> Table<S, R> {
 // Lays the words, makes the table over them and splits off the passes.
 fn make<S: Shape, R: Cover>(
     alloc: Global,
-    key: Key,
+    setup: Setup,
     first: Generation,
 ) -> Result<(Table<S, R>, Vec<Pass<S, R>>), AllocError>
-    requires numbers { IsKey key }
-    requires first { first ≡ key.first }
-    ensures table { IfOk result (λ made. key_of made.0 ≡ key) }
+    requires numbers { IsSetup setup }
+    requires first { first ≡ setup.first }
+    requires set { setup.set ≡ S.NAME }
+    requires reclaimer { setup.reclaimer ≡ R.NAME }
+    ensures table { IfOk result (λ made. setup_of made.0 ≡ setup) }
     ensures passes { IfOk result (λ made. AreAllPasses made.0 made.1.items) }
     ensures fresh { IfOk result (λ made. AreFreshPasses made.0 R.facts.first made.1.items) }
 {
-    let room = laid_words(alloc, &key)?;
-    let (board, seat) = Board::<(), View, Key, World<S, R>, Global>::of_words(
-        alloc,
-        room.as_slice(),
-        &key,
-    )?;
-    let table = Table {
-        board,
-        key,
-        first,
-        room,
-    };
+    let room = laid_words(alloc, &setup)?;
+    let (table, seat) = Table::over(alloc, room, setup, first)?;
     let pass = Pass {
         since: Snapshot::of(&seat),
         inside: Snapshot::of(&false),
@@ -121,13 +112,13 @@ fn make<S: Shape, R: Cover>(
 
 /// Makes a table of `records` records, the first `roots` of them roots, with the passes of `callers`
 /// callers in order of number. A record that is handed out for the first time gets the generation
-/// `first`. The table keeps `allocator` for contracts alone: with `Bump` no cursor is stored, with
+/// `first`. The table keeps the names of the set, the reclaimer and the allocator for contracts alone: with `Bump` no cursor is stored, with
 /// `Once` the word that counts the records drawn isn't changed.
 ///
 /// `roots` is at least 1. The refusals come in this order: `Records` exactly where `records` is below
 /// `roots` or above 1,048,575, `Callers` exactly where `callers` is 0 or above 16, and `OutOfMemory`.
 /// After a refusal nothing exists.
-pub fn prepare<S: Shape, R: Scheme>(
+pub fn prepare<S: Shape, R: Cover>(
     alloc: Global,
     records: u32,
     callers: u32,
@@ -138,7 +129,7 @@ pub fn prepare<S: Shape, R: Scheme>(
     requires { 0 < roots }
     ensures records { (result ≡ Err PrepareError.Records) ↔ AreBadRecords records roots }
     ensures callers { (result ≡ Err PrepareError.Callers) ↔ ((¬ (AreBadRecords records roots)) × AreBadCallers callers) }
-    ensures table { IfOk result (λ made. key_of made.0 ≡ key_with records roots callers first allocator) }
+    ensures table { IfOk result (λ made. setup_of made.0 ≡ setup_with records roots callers first S.NAME R.NAME allocator) }
     ensures passes { IfOk result (λ made. AreAllPasses made.0 made.1.items) }
     ensures fresh { IfOk result (λ made. AreFreshPasses made.0 R.facts.first made.1.items) }
 {
@@ -148,14 +139,16 @@ pub fn prepare<S: Shape, R: Scheme>(
     if callers == 0 || callers > MOST_CALLERS {
         return Err(PrepareError::Callers);
     }
-    let key = Key {
+    let setup = Setup {
         records,
         roots,
         callers,
         first: first.get(),
+        set: S::NAME,
+        reclaimer: R::NAME,
         allocator,
     };
-    match make(alloc, key, first) {
+    match make(alloc, setup, first) {
         Ok(made) => Ok(made),
         Err(AllocError) => Err(PrepareError::OutOfMemory),
     }

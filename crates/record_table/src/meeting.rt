@@ -1,10 +1,10 @@
 // How the front of one pass reaches another.
 ghost use Rattle.std.specs.Prelude.{◌≡◌, []};
-ghost use Rattle.record_rule.specs.Meetings.{note, heard, IsOneHistory};
+ghost use Rattle.record_rule.specs.Meetings.{message, heard};
 
 use crate::passes::Pass;
 use crate::table::Table;
-use atomic_table::{Join, Play, Seat, Split};
+use atomic_table::{Join, Seat, Split};
 use record_memory::View;
 use record_rule::{Cover, Shape};
 
@@ -15,16 +15,16 @@ pub struct Front {
     pub ghost at_home: { seat.me.1 ≡ [] },
 }
 
-// A pass stays as it is, and a note has its front.
-pub(crate) struct Tells;
+// A pass stays as it is, and a message has its front.
+pub(crate) struct Notes;
 
-impl Split<View> for Tells {
+impl Split<View> for Notes {
     ghost left = { λ v. v };
 
-    ghost right = { λ v. note v.front };
+    ghost right = { λ v. message v.front };
 }
 
-// A pass takes up the front of a note.
+// A pass takes up the front of a message.
 pub(crate) struct Hears;
 
 impl Join<View> for Hears {
@@ -35,22 +35,15 @@ impl Join<View> for Hears {
     ghost spent = { spent };
 }
 
-// A load that nobody asks the value of: a pass looks whether what it knows is one history.
-pub(crate) struct Looks;
-
-impl Play<(), View> for Looks {
-    ghost then = { λ s m n w. (w ≡ m) × IsOneHistory m.0 };
-}
-
 impl<S: Shape, R: Cover> Table<S, R> {
     ghost use Rattle.std.specs.Prelude.{◌≡◌};
     ghost use Rattle.record_rule.specs.Meetings.{HasMet};
     ghost use Rattle.record_table.specs.Handles.{view, IsPassOf, IsSamePass};
     ghost use Rattle.record_table.specs.Meeting.{updates_in, IsFrontOf};
 
-    /// Notes the front of a pass for another one to take up. What the pass knows stays as it is. The
+    /// Sends the front of a pass to another one, which takes it up. What the pass knows stays as it is. The
     /// split makes one load, which stands in no list of steps.
-    pub fn note_front(&self, pass: &mut Pass<S, R>) -> Front
+    pub fn send_front(&self, pass: &mut Pass<S, R>) -> Front
         requires pass { IsPassOf self.now pass.old }
         ensures pass { IsSamePass pass.old pass.new }
         ensures same { view pass.new ≡ view pass.old }
@@ -58,11 +51,11 @@ impl<S: Shape, R: Cover> Table<S, R> {
         ensures updates { updates_in result ≡ (view pass.old).front }
     {
         Front {
-            seat: self.board.shared.split_seat::<Tells>(&mut pass.seat),
+            seat: self.split::<Notes>(&mut pass.seat),
         }
     }
 
-    /// Takes up a front that another pass of this table noted. Of the two fronts one begins the
+    /// Takes up a front that another pass of this table sent. Of the two fronts one begins the
     /// other, and the pass keeps the longer one. Nothing else that it knows changes. The join and a
     /// look behind it make one load each, which stand in no list of steps.
     pub fn take_front(&self, pass: &mut Pass<S, R>, front: Front)
@@ -72,7 +65,7 @@ impl<S: Shape, R: Cover> Table<S, R> {
         ensures met { HasMet (view pass.old) (updates_in front) (view pass.new) }
     {
         let Front { seat } = front;
-        self.board.shared.join_seat::<Hears>(&mut pass.seat, seat);
-        self.board.shared.load::<Looks>(&mut pass.seat, 0);
+        self.join::<Hears>(&mut pass.seat, seat);
+        self.look(&mut pass.seat);
     }
 }

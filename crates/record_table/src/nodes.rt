@@ -1,6 +1,5 @@
 // The nodes that steps are on, and what steps on them answer.
 use row_words::{Link, Ref};
-use std::marker::Model;
 
 /// A record that a pass holds at a place of its guard.
 #[derive(Clone, Copy, Debug, PartialEq, Eq)]
@@ -25,29 +24,4 @@ pub enum Node {
 pub struct Found {
     /// The link.
     pub link: Link,
-}
-
-/// A record that this caller took out and hasn't retired. It must be spent. Contracts see it as its
-/// reference.
-pub struct TakenOut {
-    pub(crate) record: Ref,
-}
-
-impl Model for TakenOut {
-    ghost use Rattle.row_words.specs.Refs.{RefParts};
-
-    ghost Value = { RefParts };
-
-    ghost view = { λ t. t.record };
-}
-
-impl TakenOut {
-    ghost use Rattle.std.specs.Prelude.{◌≡◌};
-
-    /// The record.
-    pub fn reference(&self) -> Ref
-        ensures { result ≡ self.now }
-    {
-        self.record
-    }
 }

@@ -1,21 +1,14 @@
 // The words that a table is made with.
 ghost use Rattle.std.specs.Prelude.{◌≡◌, ◌++◌, OnOk, IfOk, replicate, length};
 ghost use Rattle.record_rule.specs.Opening.{opening_words, rows_of};
-ghost use Rattle.record_rule.specs.Records.{IsKey};
+ghost use Rattle.record_rule.specs.Records.{IsSetup};
 
-use record_memory::Key;
+use record_memory::{OF_RECORD, Setup, controls_of};
 use row_words::{pack_key, pack_number};
 use std::alloc::{AllocError, Global};
 
 // The kind of a root's key word.
 const ROOT: u8 = 1;
-
-// The control words before the announcement words, and how many each caller has.
-const SHARED: usize = 20;
-
-const OF_CALLER: usize = 5;
-
-const OF_RECORD: usize = 8;
 
 // The epoch that a table starts with.
 const FIRST_EPOCH: u64 = 1;
@@ -39,26 +32,27 @@ fn push_rows(words: &mut Vec<u64>, row: &[u64], count: u32) -> Result<(), AllocE
 }
 
 // The control words, then the roots, then the records that were never handed out.
-pub(crate) fn laid_words(alloc: Global, key: &Key) -> Result<Vec<u64>, AllocError>
-    requires { IsKey key.now }
-    ensures { IfOk result (λ v. v.items ≡ opening_words key.now) }
+pub(crate) fn laid_words(alloc: Global, setup: &Setup) -> Result<Vec<u64>, AllocError>
+    requires { IsSetup setup.now }
+    ensures { IfOk result (λ v. v.items ≡ opening_words setup.now) }
 {
-    let controls = SHARED + OF_CALLER * key.callers as usize;
-    let mut words = Vec::with_capacity(alloc, controls + OF_RECORD * key.records as usize)?;
-    words.push(u64::from(key.roots))?;
+    let controls = controls_of(setup.callers);
+    let row_words = OF_RECORD as usize;
+    let mut words = Vec::with_capacity(alloc, controls + row_words * setup.records as usize)?;
+    words.push(u64::from(setup.roots))?;
     words.push(FIRST_EPOCH)?;
     push_copies(&mut words, 0, controls - 2)?;
-    let zero = pack_number(key.first, 0);
-    let root = pack_key(key.first, ROOT, 0);
+    let zero = pack_number(setup.first, 0);
+    let root = pack_key(setup.first, ROOT, 0);
     push_rows(
         &mut words,
         &[zero, zero, zero, zero, root, zero, zero, zero],
-        key.roots,
+        setup.roots,
     )?;
     push_rows(
         &mut words,
-        &[pack_number(key.first - 1, 0); OF_RECORD],
-        key.records - key.roots,
+        &[pack_number(setup.first - 1, 0); OF_RECORD as usize],
+        setup.records - setup.roots,
     )?;
     Ok(words)
 }

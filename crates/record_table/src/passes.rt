@@ -33,6 +33,7 @@ impl<S, R> Pass<S, R> {
 
     /// The caller begins a guard. It makes no step: contracts alone see it.
     pub fn begin_guard(&mut self)
+        requires outside { is_inside self.old ≡ false }
         ensures seat { IsSameSeat self.old self.new }
         ensures since { since self.new ≡ view self.old }
         ensures inside { is_inside self.new ≡ true }
@@ -44,6 +45,7 @@ impl<S, R> Pass<S, R> {
     /// The caller ends its guard, and holds nothing from then on. It makes no step: contracts alone
     /// see it.
     pub fn end_guard(&mut self)
+        requires inside { is_inside self.old ≡ true }
         ensures seat { IsSameSeat self.old self.new }
         ensures since { since self.new ≡ view self.old }
         ensures inside { is_inside self.new ≡ false }

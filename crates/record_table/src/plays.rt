@@ -1,72 +1,44 @@
-// What each kind of step tells the pass that makes it. These types are for the proofs alone.
-ghost use Rattle.std.specs.Prelude.{◌≡◌, ℕ, ◌==◌, if◌then◌else◌};
-ghost use Rattle.record_memory.specs.declared.steps.StepKind.TheVariants.{Load, Store, Swap, Exchange};
-ghost use Rattle.record_memory.specs.Memory.{word_at};
-ghost use Rattle.record_rule.specs.Kinds.{loaded_control, ShowsBelow, drew, DrewNew, stored_at, loaded_at, IsKnownAt, noted, control_step};
-ghost use Rattle.record_rule.specs.Asides.{put_aside, took_spare, record_with};
+// What an atomic step tells the pass that makes it. These types are for the proofs alone.
+ghost use Rattle.std.specs.Prelude.{◌≡◌, ℕ};
+ghost use Rattle.record_rule.specs.Meetings.{IsOneHistory};
 
 use atomic_table::Play;
 use record_memory::View;
+use std::marker::{Brand, PhantomData};
 
-// A load of a control word.
-pub(crate) struct LoadsControl;
+// What a step tells: of the view before, the value that it found, and the view after. Each call picks it.
+pub(crate) trait Tells {
+    ghost use Rattle.std.specs.Prelude.{ℕ};
+    ghost use Rattle.record_memory.specs.declared.books.View.{View};
 
-impl Play<(), View> for LoadsControl {
-    ghost then = { λ s m n w. (w ≡ (loaded_control m.0 s.word n, m.1)) × ShowsBelow m.0 s.word n };
+    ghost tells: { View → ℕ → View → Type 0 };
 }
 
-// 1 is added to the number of records drawn. Where one was left, the caller didn't have it before.
-pub(crate) struct Draws;
-
-impl Play<(), View> for Draws {
-    ghost then = { λ s m n w. (w ≡ (drew m.0 n, m.1)) × DrewNew m.0 n };
+impl Tells for Brand {
+    ghost tells = { λ v n w. w ≡ v };
 }
 
-// The owner's store in a record.
-pub(crate) struct StoresWord;
-
-impl Play<(), View> for StoresWord {
-    ghost then = { λ s m n w. w ≡ (stored_at m.0 (word_at m.0.key.callers s.word) n, m.1) };
+// A step that gives what it found.
+pub(crate) struct Telling<M> {
+    marker: PhantomData<M>,
 }
 
-// The owner's load in a record.
-pub(crate) struct LoadsWord;
-
-impl Play<(), View> for LoadsWord {
-    ghost then = { λ s m n w. (w ≡ (loaded_at m.0 (word_at m.0.key.callers s.word) n, m.1)) × IsKnownAt m.0 (word_at m.0.key.callers s.word) n };
+impl<M: Tells> Play<(), View> for Telling<M> {
+    ghost then = { λ s m n w. M.tells m.0 n w.0 × (w.1 ≡ m.1) };
 }
 
-// The store that sets an own record aside.
-pub(crate) struct SetsAside;
-
-impl Play<(), View> for SetsAside {
-    ghost then = { λ s m n w. w ≡ (put_aside m.0 (record_with (word_at m.0.key.callers s.word)) n, m.1) };
+// A store, which doesn't give what it found.
+pub(crate) struct Stores<M> {
+    marker: PhantomData<M>,
 }
 
-// The load that takes a spare record again.
-pub(crate) struct TakesSpare;
-
-impl Play<(), View> for TakesSpare {
-    ghost then = { λ s m n w. (w ≡ (took_spare m.0 (record_with (word_at m.0.key.callers s.word)) n, m.1)) × IsKnownAt m.0 (word_at m.0.key.callers s.word) n };
+impl<M: Tells> Play<(), View> for Stores<M> {
+    ghost then = { λ s m n w. (found : ℕ) × (M.tells m.0 found w.0 × (w.1 ≡ m.1)) };
 }
 
-// A store to a control word, which found some value.
-pub(crate) struct StoresControl;
+// A load that nobody asks the value of: a pass looks whether what it knows is one history.
+pub(crate) struct Looks;
 
-impl Play<(), View> for StoresControl {
-    ghost then = { λ s m n w. (found : ℕ) × (w ≡ (noted m.0 (control_step m.0 Store s.word found n), m.1)) };
-}
-
-// A swap of a control word.
-pub(crate) struct SwapsControl;
-
-impl Play<(), View> for SwapsControl {
-    ghost then = { λ s m n w. w ≡ (noted m.0 (control_step m.0 Swap s.word n s.first), m.1) };
-}
-
-// A compare and exchange of a control word.
-pub(crate) struct ExchangesControl;
-
-impl Play<(), View> for ExchangesControl {
-    ghost then = { λ s m n w. w ≡ (noted m.0 (control_step m.0 Exchange s.word n (if n == s.first then s.second else n)), m.1) };
+impl Play<(), View> for Looks {
+    ghost then = { λ s m n w. (w ≡ m) × IsOneHistory m.0 };
 }

@@ -1,21 +1,17 @@
 // A caller's rows, for chains through them.
-ghost use Rattle.std.specs.Prelude.{◌≡◌, refl};
+ghost use Rattle.std.specs.Prelude.{◌≡◌, ℕ, refl};
 ghost use Rattle.std.proofs.Common.{◌∙◌};
 ghost use Rattle.record_rule.proofs.ChainRows.{still_start, still_then};
 ghost use Rattle.record_rule.specs.ChainRows.{row_in, OwnsChain, IsStill};
+ghost use Rattle.record_rule.specs.Kinds.{loaded, stored, IsKnown};
+ghost use Rattle.record_rule.specs.Asides.{chain_word};
 ghost use Rattle.record_table.specs.Handles.{view, IsPassOf, IsSamePass, same_start, same_then};
 
 use crate::passes::Pass;
 use crate::table::Table;
+use record_memory::{BIRTH, CHAIN, STAMP};
 use record_rule::{Cover, Shape};
 use row_words::{ChainWords, Link, Ref, link_of, number_of, pack_link};
-
-// The words of a row that chains need.
-const BIRTH: u32 = 0;
-
-const CHAIN: u32 = 1;
-
-const STAMP: u32 = 2;
 
 /// The rows of one table as one caller sees them. It owns the chain words of the records that are
 /// own, spare, in limbo or free of it. Each call is one atomic step.
@@ -33,17 +29,17 @@ impl<'a, S: Shape, R: Cover> ChainWords for Rows<'a, S, R> {
 
     ghost same = { λ v w. (w.table ≡ v.table) × (w.pass.ghost_name ≡ v.pass.ghost_name) × IsSamePass v.pass.now w.pass.now × IsStill (view v.pass.now) (view w.pass.now) };
 
+    ghost loads = { λ w r x. (n : ℕ) × IsKnown (view w.pass.now) r.index 1 n × (view x.pass.now ≡ loaded (view w.pass.now) r.index 1 n) };
+
+    ghost stores = { λ w r next x. view x.pass.now ≡ stored (view w.pass.now) r.index 1 (chain_word r.generation next) };
+
     fn load_chain(&mut self, r: Ref) -> Option<Ref> {
         let found = self.table.load_field(self.pass, r.index, CHAIN);
         link_of(found).target
     }
 
     fn store_chain(&mut self, r: Ref, next: Option<Ref>) {
-        let link = Link {
-            flags: 0,
-            target: next,
-        };
-        let value = pack_link(r.generation.get(), link);
+        let value = pack_link(r.generation.get(), Link::to(next));
         self.table.store_field(self.pass, r.index, CHAIN, value);
     }
 

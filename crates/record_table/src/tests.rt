@@ -1,30 +1,44 @@
-use crate::{Cover, PrepareError, Scheme, Shape, prepare};
+use crate::{Cover, PrepareError, Shape, prepare};
 use row_words::Generation;
-use set_model::AllocatorName;
+use set_model::{AllocatorName, ReclaimerName, SetName};
 use std::test::Fail;
 
 // A set in which nothing is linked, and a reclaimer that frees nothing.
 struct NoSet;
 
 impl Shape for NoSet {
+    ghost use Rattle.std.specs.Prelude.{refl};
+    ghost use Rattle.set_model.specs.declared.names.SetName.TheVariants.{Plain};
     ghost use Rattle.record_rule.specs.Least.{least_shape, least_shape_laws};
+
+    const NAME: SetName = SetName::Plain;
+
+    ghost NAME = { Plain };
 
     ghost facts = { least_shape };
 
     ghost laws = { least_shape_laws };
+
+    ghost named = { refl };
 }
 
 struct NoReclaimer;
 
 impl Cover for NoReclaimer {
+    ghost use Rattle.std.specs.Prelude.{refl};
+    ghost use Rattle.set_model.specs.declared.names.ReclaimerName.TheVariants.{Nothing};
     ghost use Rattle.record_rule.specs.Least.{least_cover, least_cover_laws};
+
+    const NAME: ReclaimerName = ReclaimerName::Nothing;
+
+    ghost NAME = { Nothing };
 
     ghost facts = { least_cover };
 
     ghost laws = { least_cover_laws };
-}
 
-impl Scheme for NoReclaimer {}
+    ghost named = { refl };
+}
 
 #[test]
 fn refuses_bad_numbers(rt: HostRuntime) -> Result<(), Fail> {

@@ -18,12 +18,18 @@ pub trait ChainWords {
     // What no call of these changes beside the rows. The implementor says what that is.
     ghost same: { Self → Self → Type 0 };
 
+    // What one load of the record's chain word leaves, and one store.
+    ghost loads: { Self → RefParts → Self → Type 0 };
+
+    ghost stores: { Self → RefParts → Option RefParts → Self → Type 0 };
+
     /// The record that comes after `r` in its chain.
     fn load_chain(&mut self, r: Ref) -> Option<Ref>
         requires owned { owns self.old r }
         ensures next { result ≡ (row_of self.old r).next }
         ensures rows { (q : RefParts) → row_of self.new q ≡ row_of self.old q }
         ensures owned { (q : RefParts) → owns self.old q → owns self.new q }
+        ensures made { loads self.old r self.new }
         ensures same { same self.old self.new };
 
     /// Makes `next` the record that comes after `r`, or lets its chain end there.
@@ -32,6 +38,7 @@ pub trait ChainWords {
         ensures stored { row_of self.new r ≡ with_next (row_of self.old r) next }
         ensures others { (q : RefParts) → q.index ≢ r.index → row_of self.new q ≡ row_of self.old q }
         ensures owned { (q : RefParts) → owns self.old q → owns self.new q }
+        ensures made { stores self.old r next self.new }
         ensures same { same self.old self.new };
 
     /// The epoch at which the record was handed out.

@@ -1,5 +1,6 @@
 // Links from record to record, and the chains that links make.
-ghost use Rattle.std.specs.Prelude.{◌≡◌, ◌↔◌, IsTrue};
+ghost use Rattle.std.specs.Prelude.{◌≡◌, ◌↔◌, ◌%◌, ◌/◌, IsTrue};
+ghost use Rattle.row_words.specs.Packing.{IsLink};
 
 use crate::Ref;
 use std::marker::Model;
@@ -29,6 +30,60 @@ impl Model for Link {
     ghost invariant = { λ l. AreFlags l.flags };
 
     ghost inverse = { λ p. record { flags = p.flags; target = p.target } };
+}
+
+impl Link {
+    /// The link to `target`, or to no record, without flags.
+    pub fn to(target: Option<Ref>) -> Link
+        ensures link { result ≡ record { flags = 0; target = target } }
+        ensures in_range { IsLink result }
+    {
+        Link { flags: 0, target }
+    }
+
+    /// The link to the same record without flags.
+    pub fn clean(self) -> Link
+        ensures link { result ≡ record { flags = 0; target = self.target } }
+        ensures in_range { IsLink result }
+    {
+        Link::to(self.target)
+    }
+
+    /// The link to the same record with the mark alone.
+    pub fn marked(self) -> Link
+        ensures link { result ≡ record { flags = 1; target = self.target } }
+        ensures in_range { IsLink result }
+    {
+        Link {
+            flags: MARK,
+            target: self.target,
+        }
+    }
+
+    /// The link to the same record with the lock alone.
+    pub fn locked(self) -> Link
+        ensures link { result ≡ record { flags = 2; target = self.target } }
+        ensures in_range { IsLink result }
+    {
+        Link {
+            flags: LOCK,
+            target: self.target,
+        }
+    }
+
+    /// Whether it has the mark, whatever other flags it has.
+    pub fn is_marked(&self) -> bool
+        ensures { IsTrue result ↔ (self.now.flags % 2 ≡ 1) }
+    {
+        self.flags % 2 == MARK
+    }
+
+    /// Whether it has the lock, whatever other flags it has.
+    pub fn is_locked(&self) -> bool
+        ensures { IsTrue result ↔ (self.now.flags / 2 % 2 ≡ 1) }
+    {
+        self.flags / LOCK % 2 == 1
+    }
 }
 
 /// A chain of records through the chain words of their rows.

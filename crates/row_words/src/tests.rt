@@ -33,6 +33,21 @@ fn generations_have_limits(rt: HostRuntime) -> Result<(), Fail> {
 }
 
 #[test]
+fn links_have_flags(rt: HostRuntime) -> Result<(), Fail> {
+    let link = Link::to(Some(Ref::new(2, generation(1)?)));
+    assert_eq!(rt; link.flags, 0);
+    assert_eq!(rt; link.marked().flags, 1);
+    assert_eq!(rt; link.locked().flags, 2);
+    assert!(rt; link.marked().is_marked());
+    assert!(rt; !link.marked().is_locked());
+    assert!(rt; link.locked().is_locked());
+    assert!(rt; !link.locked().is_marked());
+    assert_eq!(rt; link.marked().clean(), link);
+    assert_eq!(rt; Link::to(None).target, None);
+    Ok(())
+}
+
+#[test]
 fn words_are_packed(rt: HostRuntime) -> Result<(), Fail> {
     let target = Some(Ref::new(2, generation(1)?));
     for (flags, word) in [(0, CLEAN_WORD), (MARK, MARKED_WORD)] {

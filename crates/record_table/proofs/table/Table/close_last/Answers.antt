@@ -1,5 +1,5 @@
-use Rattle.record_table.proofs.Ended.{closed_places}
+use Rattle.record_table.proofs.Ended.{closed_by}
 use Rattle.record_table.proofs.table.Table.close_last.Goals as goal
 
-pub returns-clause-places : goal.returns-clause-places
-returns-clause-places g c = closed_places _ _ _ _ c.end.result c.end.ensures.key c.end.ensures.view c.end.ensures.end c.requires.all
+pub returns-clause-fits : goal.returns-clause-fits
+returns-clause-fits g c = closed_by _ _ _ _ c.end.result c.args.self.numbers c.end.ensures.setup c.end.ensures.view c.end.ensures.end c.requires.all

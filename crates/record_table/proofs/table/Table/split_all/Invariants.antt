@@ -1,5 +1,5 @@
 use Rattle.std.proofs.Common.{◌≡◌, ◌+◌, length}
-use Rattle.record_table.specs.Handles.{key_of, view, IsPassOf}
+use Rattle.record_table.specs.Handles.{setup_of, view, IsPassOf}
 use Rattle.record_table.specs.Made.{IsFreshWith, AreFreshFrom}
 use Rattle.record_table.proofs.Made.{books_from}
 use Rattle.record_table.proofs.table.Table.split_all.Given as goal
@@ -8,7 +8,7 @@ use Rattle.record_table.proofs.table.Table.split_all.Given as goal
 abbrev pub invariant-loop-caller : goal.invariant-loop-caller
 invariant-loop-caller g l = record {
   is : IsPassOf l.self l.first;
-  rest : IsFreshWith (key_of l.self) g.R.Cover.facts.first 0 (books_from (key_of l.self) g.R.Cover.facts.first l.caller) (view l.first);
+  rest : IsFreshWith (setup_of l.self) g.R.Cover.facts.first 0 (books_from (setup_of l.self) g.R.Cover.facts.first l.caller) (view l.first);
   made : AreFreshFrom l.self g.R.Cover.facts.first 1 l.passes.items;
   many : 1 + length l.passes.items ≡ l.caller;
 }

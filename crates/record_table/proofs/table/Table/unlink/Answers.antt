@@ -1,33 +1,29 @@
-use Rattle.std.proofs.Common.{◌≢◌, arith, refl, inr, sym, ◌∙◌}
+use Rattle.std.proofs.Common.{◌≡◌, ℕ, arith, refl, inl, inr, sym, ◌∙◌, ap, subst}
+use Rattle.record_memory.specs.declared.books.Setup.{Setup}
+use Rattle.row_words.specs.Refs.{RefParts, LinkParts}
+use Rattle.row_words.specs.Packing.{IsTarget}
 use Rattle.record_rule.specs.Facts.{clean}
-use Rattle.record_rule.specs.Links.{ToldUnlink}
+use Rattle.record_rule.specs.Links.{link_word, UnlinkedRecord, ToldUnlink}
 use Rattle.record_rule.proofs.Unlinks.{unlinks_record}
-use Rattle.record_rule.specs.Links.{link_word}
 use Rattle.record_table.specs.Handles.{rule}
 use Rattle.record_table.specs.Nodes.{origin}
-use Rattle.record_table.proofs.InTable.{in_table, holds_node, link_place}
-use Rattle.record_table.proofs.LinkWords.{link_word_is, with_words, another_link}
+use Rattle.record_table.proofs.InTable.{in_table, holds_node}
+use Rattle.record_table.proofs.LinkWords.{with_words}
+use Rattle.record_table.proofs.Recording.{adds_unlink}
 use Rattle.record_table.proofs.table.Table.unlink.Goals as goal
 
-pub word_of-word-requires-clause-node : goal.word_of-word-requires-clause-node
-word_of-word-requires-clause-node g c = in_table _ c.args.pass.now c.requires.pass.key c.args.node c.requires.node
+pub exchange_on-requires-clause-node : goal.exchange_on-requires-clause-node
+exchange_on-requires-clause-node g c = in_table _ c.args.pass.now c.requires.pass.setup c.args.node c.requires.node
 
-pub exchange_told-found-requires-clause-lawful : goal.exchange_told-found-requires-clause-lawful
-exchange_told-found-requires-clause-lawful g c = with_words (rule g.S.Shape.facts g.R.Cover.facts c.args.self.now) _ c.args.pass.now.seat.me.0 _ (λ n w. ToldUnlink g.S.Shape.facts c.args.pass.now.seat.me.0 (origin c.args.node) 3 c.args.gone.target c.args.new n w) _ _ _ _
-    (link_word_is c.args.self.now.board.shared.key _ (origin c.args.node) (clean c.args.gone.target) _ _ refl c.era_of-era.ensures c.pack_link-old_word.ensures.word) (link_word_is c.args.self.now.board.shared.key _ (origin c.args.node) c.args.new _ _ refl c.era_of-era.ensures c.pack_link.ensures.word)
-    (unlinks_record g.S.Shape.facts g.R.Cover.facts g.S.Shape.laws g.R.Cover.laws _ c.args.self.now.numbers _ _ 3 c.args.gone.place _ (origin c.args.node) c.args.gone.target c.args.new c.requires.pass.present c.requires.pass.key (link_place _ _ c.args.field _ c.from.result c.word_of-word.ensures.word c.from.ensures c.requires.field) (omega arith) (omega arith) (inr refl) (holds_node _ c.args.pass.now c.requires.pass.key c.args.node c.requires.node) c.requires.gone.holds c.pack_link-old_word.ensures.in_range.target c.requires.link c.requires.allowed)
+pub exchange_on-requires-clause-lawful : goal.exchange_on-requires-clause-lawful
+exchange_on-requires-clause-lawful g c = let setup : Setup = c.args.self.now.board.shared.key in
+    with_words (rule g.S.Shape.facts g.R.Cover.facts c.args.self.now) _ c.args.pass.now.seat.me.0 (ToldUnlink g.S.Shape.facts c.args.pass.now.seat.me.0 (origin c.args.node) 3 c.args.gone.target c.args.new) _ _ _ _ _ _ refl
+    (ap (link_word setup (origin c.args.node)) c.to-expected.ensures.link) refl
+    (unlinks_record g.S.Shape.facts g.R.Cover.facts g.S.Shape.laws g.R.Cover.laws _ c.args.self.now.numbers _ _ 3 c.args.gone.place _ (origin c.args.node) c.args.gone.target c.args.new _ c.requires.pass.present c.requires.pass.setup
+    refl (omega arith) (omega arith) (inr refl) (holds_node _ c.args.pass.now c.requires.pass.setup c.args.node c.requires.node) c.requires.gone.holds (let leads = ap (λ (l : LinkParts). l.target) c.to-expected.ensures.link in let in_range = c.to-expected.ensures.in_range.target in subst IsTarget leads in_range) c.requires.link (inl refl) c.requires.allowed)
 
-pub link_of-requires : goal.link_of-requires
-link_of-requires g c = record { packed = (c.exchange_told-found.ensures.told.refused (λ e. c.if-found-old_word.false (e ∙ sym (link_word_is c.args.pass.now.seat.me.0.key _ (origin c.args.node) (clean c.args.gone.target) _ _ c.requires.pass.key c.era_of-era.ensures c.pack_link-old_word.ensures.word)))).link }
+pub exchange_on-requires-clause-recorded : goal.exchange_on-requires-clause-recorded
+exchange_on-requires-clause-recorded g c = λ n w t. adds_unlink g.S.Shape.facts c.args.pass.now.seat.me.0 (origin c.args.node) 3 _ refl c.args.self.now.board.shared.key c.requires.pass.setup c.to-expected.result c.args.new c.args.gone.target c.to-expected.ensures.link n w t
 
-pub returns-then-found-old_word-clause-step : goal.returns-then-found-old_word-clause-step
-returns-then-found-old_word-clause-step g c = (refl, c.exchange_told-found.ensures.told.made (c.if-found-old_word.true ∙ link_word_is c.args.pass.now.seat.me.0.key _ (origin c.args.node) (clean c.args.gone.target) _ _ c.requires.pass.key c.era_of-era.ensures c.pack_link-old_word.ensures.word))
-
-pub returns-else-found-old_word-clause-step : goal.returns-else-found-old_word-clause-step
-returns-else-found-old_word-clause-step g c = let not_old : c.exchange_told-found.result ≢ link_word c.args.pass.now.seat.me.0.key (origin c.args.node) (clean c.args.gone.target) = λ e. c.if-found-old_word.false (e ∙ sym (link_word_is c.args.pass.now.seat.me.0.key _ (origin c.args.node) (clean c.args.gone.target) _ _ c.requires.pass.key c.era_of-era.ensures c.pack_link-old_word.ensures.word)) in
-    let refused = c.exchange_told-found.ensures.told.refused not_old in record {
-      word = c.exchange_told-found.result;
-      found = c.link_of.ensures.link;
-      another = λ e. another_link c.args.pass.now.seat.me.0.key (origin c.args.node) (clean c.args.gone.target) c.exchange_told-found.result refused.link refused.own not_old (sym c.link_of.ensures.link ∙ e);
-      refused = refused;
-    }
+pub exchange_on-requires-clause-refused : goal.exchange_on-requires-clause-refused
+exchange_on-requires-clause-refused g c = λ n w t ne. t.refused (λ e. ne (e ∙ ap (λ (z : Setup × LinkParts). link_word z.0 (origin c.args.node) z.1) (λ k. (c.requires.pass.setup k, sym c.to-expected.ensures.link k))))

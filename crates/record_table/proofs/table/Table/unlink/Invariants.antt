@@ -1,7 +1,6 @@
-use Rattle.record_table.specs.ToldLinks.{UnlinkedFrom}
+use Rattle.record_rule.specs.Links.{ToldUnlink}
 use Rattle.record_table.specs.Nodes.{origin}
-use Rattle.record_table.proofs.SameViews.{same_unlink}
 use Rattle.record_table.proofs.table.Table.unlink.Given as goal
 
-abbrev pub ghosts-exchange_told : goal.ghosts-exchange_told
-ghosts-exchange_told g a = record { tells = UnlinkedFrom g.S.Shape.facts (origin a._node.now) a._old.now.target a._left.now; same = same_unlink g.S.Shape.facts (origin a._node.now) a._old.now.target a._left.now }
+abbrev pub ghosts-exchange_on : goal.ghosts-exchange_on
+ghosts-exchange_on g a = record { tells = λ v n w. ToldUnlink g.S.Shape.facts v (origin a.node) 3 a._about.now a.new n w }

@@ -1,0 +1,29 @@
+-- What is so of each step that a caller made.
+use Rattle.std.specs.Prelude.{◌≡◌, ℕ, ◌/◌, ◌⊎◌, Some}
+use Rattle.set_model.specs.declared.names.AllocatorName.TheVariants.{Bump, Once}
+use Rattle.record_memory.specs.declared.books.Setup.{Setup}
+use Rattle.record_memory.specs.declared.steps.Step.{Step}
+use Rattle.record_memory.specs.declared.steps.StepKind.{StepKind}
+use Rattle.record_memory.specs.declared.steps.StepKind.TheVariants.{Load, Store, Add, Exchange}
+use Rattle.record_memory.specs.declared.steps.Word.{Word}
+use Rattle.record_memory.specs.declared.steps.Word.TheVariants.{Drawn, Epoch, Lock, Blank, Shelf, Announced, Cursor, Field}
+use Rattle.row_words.specs.Refs.{RefParts}
+use Rattle.row_words.specs.Packing.{own_in}
+
+-- the kinds of step that caller c makes on a word: on a word that its allocator or its pool doesn't use no kind but a load
+abbrev pub IsStepOn : Setup → ℕ → Word → StepKind → Type 0
+IsStepOn setup c Drawn k = (k ≡ Load) ⊎ ((k ≡ Add) × (setup.allocator ≡ Bump))
+IsStepOn setup c Epoch k = (k ≡ Load) ⊎ (k ≡ Exchange)
+IsStepOn setup c Lock k = k ≡ Load
+IsStepOn setup c Blank k = k ≡ Load
+IsStepOn setup c (Shelf j) k = k ≡ Load
+IsStepOn setup c (Announced j) k = (k ≡ Load) ⊎ ((k ≡ Store) × (j / 4 ≡ c))
+IsStepOn setup c (Cursor d) k = (k ≡ Load) ⊎ ((k ≡ Store) × (d ≡ c) × (setup.allocator ≡ Once))
+IsStepOn setup c (Field i f) k = (k ≡ Load) ⊎ ((k ≡ Store) ⊎ (k ≡ Exchange))
+
+pub record StepFits (setup : Setup) (c : ℕ) (t : Step) : Type 0 where
+  pub kind : IsStepOn setup c t.word t.kind
+  -- a step on a held record was on a word of it, and found and left its generation there
+  pub word : (r : RefParts) → t.held ≡ Some r → (f : ℕ) × (t.word ≡ Field r.index f)
+  pub own : (r : RefParts) → t.held ≡ Some r → own_in t.found ≡ r.generation
+  pub left : (r : RefParts) → t.held ≡ Some r → own_in t.left ≡ r.generation
