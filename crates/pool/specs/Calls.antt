@@ -1,18 +1,17 @@
 -- What a call of a pool does.
-use Rattle.std.specs.Prelude.{◌≡◌, ◌≢◌, ℕ, ◌⊎◌, List, [], ◌∷◌, ◌++◌, All, Option, Some, None, slice_index_or}
+use Rattle.std.specs.Prelude.{◌≡◌, ◌≢◌, ℕ, ◌+◌, ◌⊎◌, List, [], ◌∷◌, ◌++◌, length, All, Option, None}
 use Rattle.row_words.specs.Refs.{RefParts}
-use Rattle.row_words.specs.Rows.{Row}
-use Rattle.row_words.specs.Packing.{link_in, number_in, packed_ref}
+use Rattle.row_words.specs.Packing.{packed_ref}
 use Rattle.row_words.specs.declared.links.Chain.{Chain}
-use Rattle.limbo_bags.specs.Chains.{IsChain, refs_of}
 use mathlib.Core.Option.{some}
 use lib.ListN.{get_elem?}
 use Rattle.record_memory.specs.declared.steps.Step.{Step}
 use Rattle.record_memory.specs.declared.steps.Word.TheVariants.{Shelf}
 use Rattle.record_memory.specs.declared.books.View.{View}
-use Rattle.record_memory.specs.declared.books.Share.{Share}
 use Rattle.record_memory.specs.declared.books.Standing.TheVariants.{Free}
-use Rattle.record_rule.specs.Kinds.{share_in}
+use Rattle.record_rule.specs.Kinds.{share_in, idle}
+use Rattle.record_rule.specs.Makes.{Makes}
+use Rattle.reclaim_api.specs.Chained.{IsChainOf, refs_in}
 use Rattle.pool.specs.Looks.{Look, looks_in, AreAllEmpty, AreAllTaken, AreFirst}
 use Rattle.pool.specs.declared.Taken.{Taken}
 use Rattle.pool.specs.declared.Taken.TheVariants.{Some as Took, None as FoundNone}
@@ -23,45 +22,26 @@ use Rattle.pool.specs.declared.Given.TheVariants.{Done, Kept}
 abbrev pub CHAIN : ℕ
 CHAIN = 32
 
--- the record is free, and this caller's
-abbrev pub IsFree : View → RefParts → Type 0
-IsFree v r = (h : Share) × (share_in v r.index ≡ Some h) × (h.standing ≡ Free) × (h.era ≡ r.generation)
-
-abbrev pub words_of : Option Share → List ℕ
-words_of None = []
-words_of (Some h) = h.words
-
--- what the caller knows of the row of a record that it has
-abbrev pub row_in : View → RefParts → Row
-row_in v r = let words = words_of (share_in v r.index) in record { next = (link_in (slice_index_or words 1 0)).target; birth = number_in (slice_index_or words 0 0); stamp = number_in (slice_index_or words 2 0) }
-
--- the records of a chain of this caller, the first one first
-abbrev pub refs_in : View → Chain → List RefParts
-refs_in v chain = refs_of (row_in v) chain
-
 -- a chain of as many free records of this caller as a shelf has
 pub record IsFull (v : View) (chain : Chain) : Type 0 where
   pub count : chain.count ≡ CHAIN
-  pub list : IsChain (IsFree v) (row_in v) chain
-
--- the caller made these steps, and what it knows of no other matter changed
-pub record Makes (before after : View) (steps : List Step) : Type 0 where
-  pub appended : after.own.steps ≡ before.own.steps ++ steps
-  pub rest : after ≡ record before { own = record before.own { steps = after.own.steps; mine = after.own.mine; drawing = after.own.drawing } }
+  pub list : IsChainOf Free v chain
 
 -- of the records that aren't in this list the caller knows what it did
 abbrev pub StaysBut : List RefParts → View → View → Type 0
 StaysBut refs before after = (i : ℕ) → All (λ (r : RefParts). r.index ≢ i) refs → share_in after i ≡ share_in before i
 
--- the records come to the caller, which had none of them
+-- the records come to the caller, which had none of them, and are idle
 pub record Gains (before after : View) (refs : List RefParts) : Type 0 where
   pub had : All (λ (r : RefParts). share_in before r.index ≡ None) refs
   pub others : StaysBut refs before after
+  pub more : idle after.own ≡ idle before.own + length refs
 
--- the records leave the caller
+-- the records, which were idle, leave the caller
 pub record Loses (before after : View) (refs : List RefParts) : Type 0 where
   pub gone : All (λ (r : RefParts). share_in after r.index ≡ None) refs
   pub others : StaysBut refs before after
+  pub less : idle after.own + length refs ≡ idle before.own
 
 -- one of the steps left this value on this shelf
 abbrev pub Leaves : List Step → ℕ → ℕ → Type 0
@@ -101,6 +81,8 @@ module _ (shelves : ℕ) (busy : List Step → Type 0) (before after : View) whe
   pub record Takes (taken : Taken) : Type 0 where
     pub steps : List Step
     pub made : Makes before after steps
+    -- it handed no record out, and retired and freed none
+    pub moves : after.own.moves ≡ before.own.moves
     pub looks : AreFirst shelves (looks_in steps)
     pub answer : TakesBy taken steps
 
@@ -108,5 +90,6 @@ module _ (shelves : ℕ) (busy : List Step → Type 0) (before after : View) whe
   pub record Gives (chain : Chain) (given : Given) : Type 0 where
     pub steps : List Step
     pub made : Makes before after steps
+    pub moves : after.own.moves ≡ before.own.moves
     pub looks : AreFirst shelves (looks_in steps)
     pub answer : GivesBy chain given steps

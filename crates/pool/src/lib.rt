@@ -13,7 +13,7 @@ ghost use Rattle.record_table.specs.Handles.{view, IsPassOf, IsSamePass};
 ghost use Rattle.pool.specs.Calls.{IsFull, Takes, Gives};
 
 pub use no_pool::NoPool;
-use record_table::{Pass, Scheme, Shape, Table};
+use record_table::{Cover, Pass, Shape, Table};
 use row_words::Chain;
 
 /// What `Pool::take` answers.
@@ -48,14 +48,14 @@ pub trait Pool {
 
     /// Takes a chain from the first shelf that has one. It answers `None` only where it looked at every
     /// shelf and found it empty.
-    fn take<S: Shape, R: Scheme>(table: &Table<S, R>, pass: &mut Pass<S, R>) -> Taken
+    fn take<S: Shape, R: Cover>(table: &Table<S, R>, pass: &mut Pass<S, R>) -> Taken
         requires pass { IsPassOf table.now pass.old }
         ensures pass { IsSamePass pass.old pass.new }
         ensures takes { Takes SHELVES busy (view pass.old) (view pass.new) result };
 
     /// Puts a chain of 32 free records of this caller on the first shelf that is empty. It answers `Kept`
     /// only where it looked at every shelf and found it taken, and hands the chain back.
-    fn give<S: Shape, R: Scheme>(table: &Table<S, R>, pass: &mut Pass<S, R>, chain: Chain) -> Given
+    fn give<S: Shape, R: Cover>(table: &Table<S, R>, pass: &mut Pass<S, R>, chain: Chain) -> Given
         requires pass { IsPassOf table.now pass.old }
         requires full { IsFull (view pass.old) chain }
         ensures pass { IsSamePass pass.old pass.new }

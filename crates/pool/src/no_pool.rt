@@ -6,7 +6,7 @@ ghost use Rattle.pool.specs.declared.Taken.TheVariants.{None as FoundNone};
 ghost use Rattle.pool.specs.declared.Given.TheVariants.{Kept};
 
 use crate::{Given, Pool, Taken};
-use record_table::{Pass, Scheme, Shape, Table};
+use record_table::{Cover, Pass, Shape, Table};
 use row_words::Chain;
 
 /// A pool without shelves. It makes no step: `take` answers `None` and `give` hands the chain back.
@@ -19,7 +19,7 @@ impl Pool for NoPool {
 
     ghost busy = { λ steps. ⊥ };
 
-    fn take<S: Shape, R: Scheme>(_table: &Table<S, R>, _pass: &mut Pass<S, R>) -> Taken
+    fn take<S: Shape, R: Cover>(_table: &Table<S, R>, _pass: &mut Pass<S, R>) -> Taken
         requires pass { IsPassOf _table.now _pass.old }
         ensures pass { IsSamePass _pass.old _pass.new }
         ensures takes { Takes 0 (λ steps. ⊥) (view _pass.old) (view _pass.new) result }
@@ -29,11 +29,7 @@ impl Pool for NoPool {
         Taken::None
     }
 
-    fn give<S: Shape, R: Scheme>(
-        _table: &Table<S, R>,
-        _pass: &mut Pass<S, R>,
-        chain: Chain,
-    ) -> Given
+    fn give<S: Shape, R: Cover>(_table: &Table<S, R>, _pass: &mut Pass<S, R>, chain: Chain) -> Given
         requires pass { IsPassOf _table.now _pass.old }
         ensures pass { IsSamePass _pass.old _pass.new }
         ensures gives { Gives 0 (λ steps. ⊥) (view _pass.old) (view _pass.new) chain result }

@@ -1,18 +1,28 @@
 //! No reclamation: a record that was retired stays in limbo until the table is closed.
 #![tactic(auto)]
 
-use record_table::{Cover, Scheme};
+mod scheme;
+
+use record_table::Cover;
+use set_model::ReclaimerName;
 
 /// The reclaimer that frees nothing. A guard starts with its first load of a link, and needs no
 /// announcement.
 pub struct NoReclaim;
 
 impl Cover for NoReclaim {
-    ghost use Rattle.reclaim_none.specs.Keeping.{none, none_laws};
+    ghost use Rattle.std.specs.Prelude.{refl};
+    ghost use Rattle.set_model.specs.declared.names.ReclaimerName.TheVariants.{Nothing};
+    ghost use Rattle.cover_facts.specs.Keeping.{none};
+    ghost use Rattle.cover_facts.proofs.KeepingLaws.{none_laws};
+
+    const NAME: ReclaimerName = ReclaimerName::Nothing;
+
+    ghost NAME = { Nothing };
 
     ghost facts = { none };
 
     ghost laws = { none_laws };
-}
 
-impl Scheme for NoReclaim {}
+    ghost named = { refl };
+}

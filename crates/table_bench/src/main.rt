@@ -3,7 +3,7 @@
 #![tactic(auto)]
 
 ghost use Rattle.std.specs.Prelude.{◌≡◌};
-ghost use Rattle.record_table.specs.Handles.{key_of, view, IsPassOf, IsSamePass};
+ghost use Rattle.record_table.specs.Handles.{setup_of, view, IsPassOf, IsSamePass};
 ghost use Rattle.set_model.specs.declared.names.AllocatorName.TheVariants.{Bump as BumpName};
 
 use alloc_api::{Allocator, NoRecord};
@@ -20,7 +20,7 @@ use table_tests::{ListPass, ListTable, MichaelShape, take_last};
 // Draws a record, hands it out and sets it aside.
 fn draw_aside(table: &ListTable, pass: &mut ListPass) -> Result<Ref, NoRecord>
     requires pass { IsPassOf table.now pass.old }
-    requires allocator { (key_of table.now).allocator ≡ BumpName }
+    requires allocator { (setup_of table.now).allocator ≡ BumpName }
     ensures pass { IsSamePass pass.old pass.new }
 {
     let r = Bump::draw(table, pass)?;
@@ -31,7 +31,7 @@ fn draw_aside(table: &ListTable, pass: &mut ListPass) -> Result<Ref, NoRecord>
 // Does so with every record.
 fn draw_all(table: &ListTable, pass: &mut ListPass)
     requires pass { IsPassOf table.now pass.old }
-    requires allocator { (key_of table.now).allocator ≡ BumpName }
+    requires allocator { (setup_of table.now).allocator ≡ BumpName }
     ensures pass { IsSamePass pass.old pass.new }
 {
     'records: for _ in 0..table.records() {

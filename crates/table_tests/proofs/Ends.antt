@@ -15,7 +15,7 @@ module _ {S R : Type 0} (t : Table S R) where
 
   still_whole : (old new : Pass S R) → IsWholePassOf t old → IsSameWhole old new → IsWholePassOf t new
   still_whole old new was same = record {
-    pass = record { table = same.0.table ∙ was.pass.table; key = same.0.key ∙ was.pass.key; present = same.0.present ∙ was.pass.present };
+    pass = record { table = same.0.table ∙ was.pass.table; setup = same.0.setup ∙ was.pass.setup; present = same.0.present ∙ was.pass.present };
     whole = same.1 ∙ was.whole;
   }
 

@@ -1,5 +1,5 @@
 -- What a caller holds after its first load of a link, and what it knows of it after further steps.
-use Rattle.std.proofs.Common.{◌≡◌, ℕ, ◌+◌, ◌-◌, ◌<◌, ◌≤◌, List, length, set, length-set, Bool, true, false, cond, eqb, not, sym, ap, ◌∙◌, subst, refl, arith, Option, Some, None, get_or-set_same}
+use Rattle.std.proofs.Common.{◌≡◌, ℕ, ◌+◌, ◌-◌, ◌<◌, ◌≤◌, List, length, set, length-set, Bool, true, false, cond, eqb, not, ◌&&◌, sym, ap, ◌∙◌, subst, refl, arith, Option, Some, None, get_or-set_same}
 use Rattle.std.proofs.lemmas.List.{length-map}
 use Rattle.std.proofs.lemmas.Bool.{le-ltb}
 use Rattle.atomic_table.proofs.Lists.{set_here, set_else}
@@ -21,18 +21,19 @@ use Rattle.record_rule.specs.Links.{near_of, Origin, from_root, from_place, note
 use Rattle.record_table.specs.declared.nodes.Held.{Held}
 use Rattle.record_table.specs.declared.passes.Pass.{Pass}
 use Rattle.record_table.specs.Handles.{view, since, IsSamePass}
-use Rattle.record_table.specs.Nodes.{HoldsThere, reach_at}
+use Rattle.record_table.specs.Nodes.{HoldsThere, is_first, reach_at}
+use Rattle.record_table.proofs.Started.{later_load}
 use Rattle.table_tests.specs.First.{HasNote, HasKey, HasMark, HoldsFirst, HoldsFound}
 use Rattle.list_facts.specs.Michael.{michael}
 use Rattle.list_facts.specs.Steps.{list_settled, marked_with, key_in_note, key_noted, MayMark}
-use Rattle.reclaim_none.specs.Keeping.{none}
+use Rattle.cover_facts.specs.Keeping.{none}
 
 module _ {S R : Type 0} where
   -- what it holds it still holds after steps that leave its guard
-  pub still_there : (p q : Pass S R) (h : Held) → since q ≡ since p → (view q).own.guard ≡ (view p).own.guard → (view q).key ≡ (view p).key → HoldsThere p h → HoldsThere q h
-  still_there p q h begun guard key there = record {
+  pub still_there : (p q : Pass S R) (h : Held) → since q ≡ since p → (view q).own.guard ≡ (view p).own.guard → (view q).setup ≡ (view p).setup → HoldsThere p h → HoldsThere q h
+  still_there p q h begun guard setup there = record {
     started = subst (λ (z : View × Guard). length z.0.own.steps < z.1.start_step) (λ k. (sym begun k, sym guard k)) there.started;
-    within = subst (λ z. h.target.index ≤ z.records) (sym key) there.within;
+    within = subst (λ z. h.target.index ≤ z.records) (sym setup) there.within;
     holds = subst (λ (g : Guard). At g.holds h.place (Some h.target)) (sym guard) there.holds;
   }
 
@@ -46,7 +47,7 @@ module _ {S R : Type 0} where
     leads = ap (λ (f : ℕ). cond (eqb f 1) None (link_in n).target) (ap (λ (f : ℕ). mark_bit record { flags = f; target = None }) clear) ∙ to
 
     abbrev time : Moment
-    time = record { epoch = told.epoch; removals = length told.removals; updates = length told.updates }
+    time = record { epoch = told.epoch; taken_out = length (view q).seen_taken_out; updates = length (view q).seen_updates }
 
     abbrev step : ℕ
     step = length (view p).own.steps + 1
@@ -57,21 +58,21 @@ module _ {S R : Type 0} where
     held_now : HoldsThere q (record { place = 0; target = r })
     held_now = record {
       started = let e = ap (λ (g : Guard). g.start_step) guard_is in let z = ap (λ (v : View). length v.own.steps) (same ∙ begun) in omega arith;
-      within = let w = told.within r leads in subst (λ (v : View). r.index ≤ v.key.records) (sym told.view) w;
+      within = let w = told.within r leads in subst (λ (v : View). r.index ≤ v.setup.records) (sym told.view) w;
       holds = subst (λ (g : Guard). At g.holds 0 (Some r)) (sym guard_is) (set_here _ 0 (Some r) (let l = length-map (view p).own.guard.holds nothing_at in let m = told.many in omega arith));
     }
 
     five_words : length (note_in (view q).own.notes 0).words ≡ 5
     five_words = ap (λ (l : List Note). length (note_in l 0).words) (ap (λ (v : View). v.own.notes) told.view)
-        ∙ ap (λ (x : Note). length x.words) (get_or-set_same (view p).own.notes 0 (note_of michael told.target (length told.updates)) _ (let m = told.noted in omega arith)) ∙ five told.target
+        ∙ ap (λ (x : Note). length x.words) (get_or-set_same (view p).own.notes 0 (note_of michael told.target (length (view q).seen_updates)) _ (let m = told.noted in omega arith)) ∙ five told.target
       where
-        five : (t : Option (List ℕ)) → length (note_of michael t (length told.updates)).words ≡ 5
+        five : (t : Option (List ℕ)) → length (note_of michael t (length (view q).seen_updates)).words ≡ 5
         five None = refl
         five (Some b) = refl
 
     noted_now : HasNote (view q)
     noted_now = record {
-      some = let l = length-set (view p).own.notes 0 (note_of michael told.target (length told.updates)) in let m = told.noted in let e = ap (λ (v : View). length v.own.notes) told.view in omega arith;
+      some = let l = length-set (view p).own.notes 0 (note_of michael told.target (length (view q).seen_updates)) in let m = told.noted in let e = ap (λ (v : View). length v.own.notes) told.view in omega arith;
       five = five_words;
     }
 
@@ -89,7 +90,7 @@ module _ {S R : Type 0} where
 
     -- after steps on what it holds it holds it still
     still_after : (view q).own.guard ≡ (view p).own.guard → HoldsThere q h
-    still_after guard = still_there p q h began guard same.key there
+    still_after guard = still_there p q h began guard same.setup there
 
 noted_word : (l : List Note) (w : Note) → 0 < length l → note_in (set l 0 w) 0 ≡ w
 noted_word l w long = get_or-set_same l 0 w _ long
@@ -106,14 +107,14 @@ module _ (v w : View) (noted : HasNote v) where
     ap (λ (x : Note). length x.words) (noted_word v.own.notes w noted.some) ∙ length-set (note_in v.own.notes 0).words 0 (Some n) ∙ noted.five,
   )
 
-  note_link : (r : RefParts) (n : ℕ) → LoadedLink michael v (from_place 0 r) 3 n w → HasNote w
+  note_link : {first : Bool} (r : RefParts) (n : ℕ) → LoadedLink michael none v (from_place 0 r) 3 first n w → HasNote w
   note_link r n told = let k = noting_keeps (list_settled 3 told.saw.body) r n in subst HasNote (sym told.view) record { some = k.0; five = k.1 }
 
   noting_keyed : (b : Bool) (r : RefParts) (n k : ℕ) → At (note_in v.own.notes 0).words 1 (Some k) → At (note_in (noting b v.own.notes (from_place 0 r) 3 n) 0).words 1 (Some k)
   noting_keyed false r n k known = known
   noting_keyed true r n k known = let w : Note = note_word (note_in v.own.notes 0) 3 n in subst (λ (x : Note). At x.words 1 (Some k)) (sym (noted_word v.own.notes w noted.some)) (set_else (note_in v.own.notes 0).words 0 1 (Some n) (omega arith) ∙ known)
 
-  key_link : (r : RefParts) (n key : ℕ) → LoadedLink michael v (from_place 0 r) 3 n w → HasKey v key → HasKey w key
+  key_link : {first : Bool} (r : RefParts) (n key : ℕ) → LoadedLink michael none v (from_place 0 r) 3 first n w → HasKey v key → HasKey w key
   key_link r n key told k = record {
     word = k.word;
     known = subst (λ (x : View). At (note_in x.own.notes 0).words 1 (Some k.word)) (sym told.view) (noting_keyed (list_settled 3 told.saw.body) r n k.word k.known);
@@ -125,7 +126,7 @@ module _ (v w : View) (noted : HasNote v) where
       (set_here (note_in v.own.notes 0).words 0 (Some n) (let f = noted.five in omega arith))
 
   -- a link with a mark is noted, which no step changes any more: where it is loaded
-  note_loaded : (r : RefParts) (n : ℕ) → LoadedLink michael v (from_place 0 r) 3 n w → (link_in n).flags ≡ 1 → HasMark w (link_in n)
+  note_loaded : {first : Bool} (r : RefParts) (n : ℕ) → LoadedLink michael none v (from_place 0 r) 3 first n w → (link_in n).flags ≡ 1 → HasMark w (link_in n)
   note_loaded r n told mark =
       let link : link_in n ≡ told.link.link = ap link_in told.link.packed ∙ link_in-packed_link told.link.own told.link.link told.link.in_range in
       let settled : list_settled 3 told.saw.body ≡ true = ap (λ (l : LinkParts). eqb (mark_bit l) 1) (ap link_in told.saw.word) ∙ ap (λ (f : ℕ). eqb (mark_bit record { flags = f; target = None }) 1) mark in
@@ -140,7 +141,7 @@ module _ (v w : View) (noted : HasNote v) where
       subst (λ (x : View). At (note_in x.own.notes 0).words 0 (Some (packed_link r.generation new))) (sym told.view) (noting_here (list_settled 3 told.body) r (packed_link r.generation new) settled)
 
 -- a record whose key is known may be marked where its link has no flags
-pub may_mark : (v : View) (key : ℕ) (r : RefParts) (link new : LinkParts) → HasKey v key → link.flags ≡ 0 → new ≡ marked_with link → MayMark 0 v.key (near_of v (from_place 0 r)) 3 link new (Some (Remove key))
+pub may_mark : (v : View) (key : ℕ) (r : RefParts) (link new : LinkParts) → HasKey v key → link.flags ≡ 0 → new ≡ marked_with link → MayMark 0 v.setup (near_of v (from_place 0 r)) 3 link new (Some (Remove key))
 may_mark v key r link new known clear mark = (refl, tt, (known.word, known.known), clear, mark, ap (λ k. Some (Remove k)) below)
   where
     noted : key ≡ key_noted (note_in v.own.notes 0)
@@ -157,9 +158,9 @@ module _ {S R : Type 0} (p q : Pass S R) (r : RefParts) (same : IsSamePass p q) 
     noted = note_key (view p) (view q) first.noted 0 n r told;
   }
 
-  pub after_link : (n : ℕ) → LoadedLink michael (view p) (from_place 0 r) 3 n (view q) → HoldsFirst q r
-  after_link n told = record {
-    holds = still_after p q (record { place = 0; target = r }) same first.holds (ap (λ (v : View). v.own.guard) told.view);
+  pub after_link : (n : ℕ) → LoadedLink michael none (view p) (from_place 0 r) 3 (is_first p) n (view q) → HoldsFirst q r
+  after_link n told = let time : Moment = record { epoch = told.epoch; taken_out = length (view q).seen_taken_out; updates = length (view q).seen_updates } in record {
+    holds = still_after p q (record { place = 0; target = r }) same first.holds (ap (λ (v : View). v.own.guard) told.view ∙ ap (λ (b : Bool). started_if (true && b) time (view p).own.guard (length (view p).own.steps + 1)) (later_load p first.holds.started));
     noted = note_link (view p) (view q) first.noted r n told;
   }
 
@@ -171,10 +172,10 @@ module _ {S R : Type 0} (p q : Pass S R) (r : RefParts) (same : IsSamePass p q) 
     key_is = refl;
   }
 
-  pub mark_loaded : (n : ℕ) → LoadedLink michael (view p) (from_place 0 r) 3 n (view q) → (link_in n).flags ≡ 1 → HasMark (view q) (link_in n)
+  pub mark_loaded : (n : ℕ) → LoadedLink michael none (view p) (from_place 0 r) 3 (is_first p) n (view q) → (link_in n).flags ≡ 1 → HasMark (view q) (link_in n)
   mark_loaded n told mark = note_loaded (view p) (view q) first.noted r n told mark
 
-  pub key_after_link : (n key : ℕ) → LoadedLink michael (view p) (from_place 0 r) 3 n (view q) → HasKey (view p) key → HasKey (view q) key
+  pub key_after_link : (n key : ℕ) → LoadedLink michael none (view p) (from_place 0 r) 3 (is_first p) n (view q) → HasKey (view p) key → HasKey (view q) key
   key_after_link n key told = key_link (view p) (view q) first.noted r n key told
 
   module _ (old new : LinkParts) (call : Option Call) (told : ExchangedLink michael (view p) (from_place 0 r) 3 old new call (view q)) where
@@ -185,14 +186,14 @@ module _ {S R : Type 0} (p q : Pass S R) (r : RefParts) (same : IsSamePass p q) 
     after_mark is_link mark = note_left (view p) (view q) first.noted r old new call is_link mark told
 
 -- what is taken out may be retired
-pub taken_now : (v w : View) (o : Origin) (gone : RefParts) (new : LinkParts) → 0 < v.key.records → UnlinkedRecord michael v o 3 gone new w → (h : Share) × HasTaken w gone h
-taken_now v w o gone new any told = let h : Share = record { standing = TakenOut; era = gone.generation; removed = length told.removals; words = told.words } in (
+pub taken_now : (v w : View) (o : Origin) (gone : RefParts) (new : LinkParts) → 0 < v.setup.records → UnlinkedRecord michael v o 3 gone new w → (h : Share) × HasTaken w gone h
+taken_now v w o gone new any told = let h : Share = record { standing = TakenOut; generation = gone.generation; taken_number = length told.taken_out; words = told.words } in (
   h,
   record {
-    within = subst (λ (x : View). gone.index ≤ x.key.records) (sym told.view) told.within;
+    within = subst (λ (x : View). gone.index ≤ x.setup.records) (sym told.view) told.within;
     known = ap (λ (x : View). share_in x gone.index) told.view ∙ get_or-set_same v.own.mine (gone.index - 1) (Some h) None (let l = told.mine in let k = told.within in omega arith);
     standing = refl;
-    era = refl;
+    generation = refl;
     three = told.three;
   },
 )

@@ -28,7 +28,7 @@ pub record HasKey (v : View) (key : ℕ) : Type 0 where
 
 -- its link is known: it has the mark, and leads where this one does
 abbrev pub HasMark : View → LinkParts → Type 0
-HasMark v link = (era : ℕ) × At (note_in v.own.notes 0).words 0 (Some (packed_link era (marked_with link)))
+HasMark v link = (generation : ℕ) × At (note_in v.own.notes 0).words 0 (Some (packed_link generation (marked_with link)))
 
 abbrev pub HoldsFound : {S R : Type 0} → Pass S R → Option RefParts → Type 0
 HoldsFound p None = Unit {0}

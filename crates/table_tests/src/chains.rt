@@ -1,6 +1,6 @@
 ghost use Rattle.std.specs.Prelude.{◌≡◌, Some};
 ghost use Rattle.record_rule.specs.ChainRows.{OwnsChain};
-ghost use Rattle.record_table.specs.Handles.{key_of, view, IsPassOf, IsSamePass};
+ghost use Rattle.record_table.specs.Handles.{setup_of, view, IsPassOf, IsSamePass};
 ghost use Rattle.set_model.specs.declared.names.AllocatorName.TheVariants.{Bump as BumpName};
 
 use crate::closing::take_last;
@@ -32,7 +32,7 @@ fn push_and_pop(table: &ListTable, pass: &mut ListPass, r: Ref) -> Option<Ref>
 // Draws a record, sets it aside, puts it into a chain and takes it off again.
 fn chained(table: &ListTable, pass: &mut ListPass) -> Result<Option<Ref>, NoRecord>
     requires pass { IsPassOf table.now pass.old }
-    requires allocator { (key_of table.now).allocator ≡ BumpName }
+    requires allocator { (setup_of table.now).allocator ≡ BumpName }
     ensures pass { IsSamePass pass.old pass.new }
 {
     let drawn = Bump::draw(table, pass)?;

@@ -1,14 +1,16 @@
 // A list of one record, by the table's steps on its nodes.
-ghost use Rattle.std.specs.Prelude.{◌≡◌, ◌<◌, ◌^◌, [], true, MatchOption};
+ghost use Rattle.std.specs.Prelude.{◌≡◌, ◌<◌, ◌^◌, [], true, false, MatchOption};
 ghost use Rattle.set_model.specs.declared.names.AllocatorName.TheVariants.{Bump as BumpName};
-ghost use Rattle.record_table.specs.Handles.{key_of, view, since, is_inside, IsPassOf, IsSamePass};
+ghost use Rattle.record_table.specs.Handles.{setup_of, view, since, is_inside, IsPassOf, IsSamePass};
 ghost use Rattle.table_tests.specs.First.{HasKey, HasMark, HoldsFirst, HoldsFound, HoldsMarked};
 
-use crate::closing::take_last;
+use crate::closing::{close_lists, take_last};
+use crate::first_look::look_first;
 use crate::types::{ListPass, ListTable, MichaelShape};
 use alloc_api::Allocator;
 use alloc_bump::Bump;
 use reclaim_none::NoReclaim;
+use record_memory::{KEY, LINK};
 use record_table::{Held, Node, prepare};
 use row_words::{Generation, Link, MARK, Ref};
 use set_model::{AllocatorName, Call};
@@ -22,16 +24,12 @@ struct Marked {
     link: Link,
 }
 
-const LINK: u8 = 3;
-
-const KEY: u8 = 4;
-
 // Adds the key where the list is empty, and says whether it did. Where it isn't, the exchange of the
 // root's link is refused, and the record is set aside.
 fn add_first(table: &ListTable, pass: &mut ListPass, key: u64) -> bool
     requires pass { IsPassOf table.now pass.old }
-    requires allocator { (key_of table.now).allocator ≡ BumpName }
-    requires roots { (key_of table.now).roots ≡ 1 }
+    requires allocator { (setup_of table.now).allocator ≡ BumpName }
+    requires roots { (setup_of table.now).roots ≡ 1 }
     requires key { key < 2 ^ 40 }
     ensures pass { IsSamePass pass.old pass.new }
 {
@@ -40,10 +38,7 @@ fn add_first(table: &ListTable, pass: &mut ListPass, key: u64) -> bool
     };
     let mut own = table.hand_out(pass, r, 0);
     table.store_own(pass, &mut own, KEY, key);
-    let empty = Link {
-        flags: 0,
-        target: None,
-    };
+    let empty = Link::to(None);
     match table.publish(
         pass,
         Node::Root(0),
@@ -64,10 +59,12 @@ fn add_first(table: &ListTable, pass: &mut ListPass, key: u64) -> bool
 fn remove_first(table: &ListTable, pass: &mut ListPass) -> Option<(u64, bool)>
     requires pass { IsPassOf table.now pass.old }
     requires whole { (view pass.old).others ≡ [] }
-    requires roots { (key_of table.now).roots ≡ 1 }
+    requires outside { is_inside pass.old ≡ false }
+    requires roots { (setup_of table.now).roots ≡ 1 }
     ensures pass { IsPassOf table.now pass.new }
     ensures caller { (view pass.new).own.caller ≡ (view pass.old).own.caller }
     ensures whole { (view pass.new).others ≡ [] }
+    ensures outside { is_inside pass.new ≡ false }
 {
     pass.begin_guard();
     let removed = match mark_first(table, pass) {
@@ -89,15 +86,19 @@ fn remove_helped(
 ) -> Option<(u64, bool)>
     requires pass { IsPassOf table.now pass.old }
     requires whole { (view pass.old).others ≡ [] }
+    requires outside { is_inside pass.old ≡ false }
     requires helper { IsPassOf table.now helper.old }
     requires whole_helper { (view helper.old).others ≡ [] }
-    requires roots { (key_of table.now).roots ≡ 1 }
+    requires outside_helper { is_inside helper.old ≡ false }
+    requires roots { (setup_of table.now).roots ≡ 1 }
     ensures pass { IsPassOf table.now pass.new }
     ensures caller { (view pass.new).own.caller ≡ (view pass.old).own.caller }
     ensures whole { (view pass.new).others ≡ [] }
     ensures helper { IsPassOf table.now helper.new }
     ensures caller_helper { (view helper.new).own.caller ≡ (view helper.old).own.caller }
     ensures whole_helper { (view helper.new).others ≡ [] }
+    ensures outside { is_inside pass.new ≡ false }
+    ensures outside_helper { is_inside helper.new ≡ false }
 {
     pass.begin_guard();
     let removed = match mark_first(table, pass) {
@@ -116,10 +117,12 @@ fn remove_helped(
 fn help_first(table: &ListTable, pass: &mut ListPass)
     requires pass { IsPassOf table.now pass.old }
     requires whole { (view pass.old).others ≡ [] }
-    requires roots { (key_of table.now).roots ≡ 1 }
+    requires outside { is_inside pass.old ≡ false }
+    requires roots { (setup_of table.now).roots ≡ 1 }
     ensures pass { IsPassOf table.now pass.new }
     ensures caller { (view pass.new).own.caller ≡ (view pass.old).own.caller }
     ensures whole { (view pass.new).others ≡ [] }
+    ensures outside { is_inside pass.new ≡ false }
 {
     pass.begin_guard();
     if let Some(target) = reach_first(table, pass) {
@@ -134,7 +137,7 @@ fn help_first(table: &ListTable, pass: &mut ListPass)
 // Reaches the first record of the list, where there is one.
 fn reach_first(table: &ListTable, pass: &mut ListPass) -> Option<Ref>
     requires pass { IsPassOf table.now pass.old }
-    requires roots { (key_of table.now).roots ≡ 1 }
+    requires roots { (setup_of table.now).roots ≡ 1 }
     requires inside { is_inside pass.old ≡ true }
     requires begun { since pass.old ≡ view pass.old }
     ensures pass { IsSamePass pass.old pass.new }
@@ -150,6 +153,7 @@ fn reach_first(table: &ListTable, pass: &mut ListPass) -> Option<Ref>
 // Loads the key and the link of the record at the first place.
 fn read_held(table: &ListTable, pass: &mut ListPass, target: Ref) -> (u64, Link)
     requires pass { IsPassOf table.now pass.old }
+    requires inside { is_inside pass.old ≡ true }
     requires held { HoldsFirst pass.old target }
     ensures pass { IsSamePass pass.old pass.new }
     ensures held { HoldsFirst pass.new target }
@@ -164,7 +168,7 @@ fn read_held(table: &ListTable, pass: &mut ListPass, target: Ref) -> (u64, Link)
 // Marks the first record of the list, where there is one without a mark and the exchange isn't refused.
 fn mark_first(table: &ListTable, pass: &mut ListPass) -> Option<Marked>
     requires pass { IsPassOf table.now pass.old }
-    requires roots { (key_of table.now).roots ≡ 1 }
+    requires roots { (setup_of table.now).roots ≡ 1 }
     requires inside { is_inside pass.old ≡ true }
     requires begun { since pass.old ≡ view pass.old }
     ensures pass { IsSamePass pass.old pass.new }
@@ -175,10 +179,7 @@ fn mark_first(table: &ListTable, pass: &mut ListPass) -> Option<Marked>
     if link.flags != 0 {
         return None;
     }
-    let marked = Link {
-        flags: MARK,
-        target: link.target,
-    };
+    let marked = link.marked();
     let held = Node::At(Held { place: 0, target });
     let Ok(()) = table.exchange_link(pass, held, LINK, link, marked, Some(Call::Remove(key))) else {
         return None;
@@ -189,15 +190,12 @@ fn mark_first(table: &ListTable, pass: &mut ListPass) -> Option<Marked>
 // Takes a held and marked record out behind the root and retires it, and says whether it did.
 fn take_out(table: &ListTable, pass: &mut ListPass, target: Ref, link: Link) -> bool
     requires pass { IsPassOf table.now pass.old }
-    requires roots { (key_of table.now).roots ≡ 1 }
+    requires roots { (setup_of table.now).roots ≡ 1 }
     requires held { HoldsMarked pass.old target link }
     ensures pass { IsSamePass pass.old pass.new }
 {
     let gone = Held { place: 0, target };
-    let new = Link {
-        flags: 0,
-        target: link.target,
-    };
+    let new = link.clean();
     let Ok(taken) = table.unlink(pass, Node::Root(0), LINK, gone, new) else {
         return false;
     };
@@ -218,12 +216,15 @@ fn adds_a_key_and_removes_it(rt: HostRuntime) -> Result<(), Fail> {
     )?;
     let mut pass = take_last(&table, &mut passes).ok_or("a pass")?;
     assert_eq!(rt; remove_first(&table, &mut pass), None);
+    pass.begin_guard();
+    assert!(rt; look_first(&table, &mut pass).target.is_none());
+    pass.end_guard();
     assert!(rt; add_first(&table, &mut pass, 5));
     assert!(rt; !add_first(&table, &mut pass, 6));
     assert_eq!(rt; remove_first(&table, &mut pass), Some((5, true)));
     assert_eq!(rt; remove_first(&table, &mut pass), None);
     assert!(rt; add_first(&table, &mut pass, 8));
-    let closed = table.close_last(pass);
+    let closed = close_lists(table, pass);
     let words = closed.words();
     let own = 7u64 << 44;
     // The root leads to the fourth record, which has the key 8 and ends the list.
@@ -261,7 +262,7 @@ fn another_caller_takes_a_marked_record_out(rt: HostRuntime) -> Result<(), Fail>
     );
     assert_eq!(rt; remove_first(&table, &mut pass), None);
     table.absorb(&mut pass, helper);
-    let closed = table.close_last(pass);
+    let closed = close_lists(table, pass);
     let words = closed.words();
     let own = 7u64 << 44;
     // The root leads nowhere. The second record is retired, and its link keeps the mark.

@@ -6,14 +6,14 @@ ghost use Rattle.record_table.specs.Closing.{AreAllPasses};
 
 use crate::types::MichaelShape;
 use reclaim_none::NoReclaim;
-use record_table::{Pass, Scheme, Shape, Table, prepare};
+use record_table::{Cover, Pass, Shape, Table, prepare};
 use row_words::Generation;
 use set_history::meet;
 use set_model::AllocatorName;
 use std::test::Fail;
 
 // The first caller meets into the last one.
-fn meet_ends<S: Shape, R: Scheme>(table: &Table<S, R>, passes: &mut [Pass<S, R>])
+fn meet_ends<S: Shape, R: Cover>(table: &Table<S, R>, passes: &mut [Pass<S, R>])
     requires all { AreAllPasses table.now passes.old }
     requires two { 1 < length passes.old }
     ensures all { AreAllPasses table.now passes.new }
@@ -24,7 +24,7 @@ fn meet_ends<S: Shape, R: Scheme>(table: &Table<S, R>, passes: &mut [Pass<S, R>]
 }
 
 // What the first caller has seen reaches the third one through the second.
-fn meet_in_a_row<S: Shape, R: Scheme>(
+fn meet_in_a_row<S: Shape, R: Cover>(
     table: &Table<S, R>,
     first: &mut Pass<S, R>,
     second: &mut Pass<S, R>,

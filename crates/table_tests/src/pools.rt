@@ -5,13 +5,13 @@ ghost use Rattle.record_table.specs.Handles.{IsPassOf, IsSamePass};
 use crate::types::MichaelShape;
 use pool::{Given, NoPool, Pool, Taken};
 use reclaim_none::NoReclaim;
-use record_table::{Pass, Scheme, Shape, Table, prepare};
+use record_table::{Cover, Pass, Shape, Table, prepare};
 use row_words::{Chain, Generation};
 use set_model::AllocatorName;
 use std::test::Fail;
 
 // Asks any pool for a chain.
-fn ask<S: Shape, R: Scheme, P: Pool>(table: &Table<S, R>, pass: &mut Pass<S, R>) -> Taken
+fn ask<S: Shape, R: Cover, P: Pool>(table: &Table<S, R>, pass: &mut Pass<S, R>) -> Taken
     requires { IsPassOf table.now pass.old }
     ensures { IsSamePass pass.old pass.new }
 {

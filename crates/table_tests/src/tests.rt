@@ -1,8 +1,9 @@
 ghost use Rattle.std.specs.Prelude.{◌≡◌, IfOk, OnOk};
 ghost use Rattle.set_model.specs.declared.names.AllocatorName.TheVariants.{Bump as BumpName};
-ghost use Rattle.record_table.specs.Handles.{key_of, view, IsPassOf, IsSamePass};
+ghost use Rattle.record_table.specs.Handles.{setup_of, view, IsPassOf, IsSamePass};
 
 use crate::closing::take_last;
+use crate::looks::{look_at_cursor, look_at_drawn, look_at_shelf};
 use crate::types::{ListPass, ListTable, MichaelShape};
 use alloc_api::{Allocator, NoRecord};
 use alloc_bump::Bump;
@@ -18,7 +19,7 @@ const BIRTH: u64 = 0;
 // Draws a record, hands it out and sets it aside before `next`.
 fn draw_aside(table: &ListTable, pass: &mut ListPass, next: Option<Ref>) -> Result<Ref, NoRecord>
     requires pass { IsPassOf table.now pass.old }
-    requires allocator { (key_of table.now).allocator ≡ BumpName }
+    requires allocator { (setup_of table.now).allocator ≡ BumpName }
     ensures pass { IsSamePass pass.old pass.new }
 {
     let r = Bump::draw(table, pass)?;
@@ -85,5 +86,33 @@ fn two_callers_draw_in_turn(rt: HostRuntime) -> Result<(), Fail> {
     let closed = table.close_last(pass);
     assert_eq!(rt; closed.words()[0], 4);
     assert_eq!(rt; closed.callers(), 2);
+    Ok(())
+}
+
+#[test]
+fn looks_at_words_that_nobody_changes(rt: HostRuntime) -> Result<(), Fail> {
+    let first = Generation::new(1).ok_or("a generation")?;
+    for allocator in [AllocatorName::Bump, AllocatorName::Once] {
+        let (table, mut passes) = prepare::<MichaelShape, NoReclaim>(
+            rt.alloc(),
+            4,
+            1,
+            first,
+            2,
+            allocator,
+        )?;
+        let mut pass = take_last(&table, &mut passes).ok_or("a pass")?;
+        assert_eq!(rt; look_at_shelf(&table, &mut pass), 0);
+        match allocator {
+            AllocatorName::Bump => {
+                assert_eq!(rt; look_at_cursor(&table, &mut pass), 0);
+            }
+            AllocatorName::Once => {
+                assert_eq!(rt; look_at_drawn(&table, &mut pass), 2);
+            }
+        }
+        let closed = table.close_last(pass);
+        assert_eq!(rt; closed.words()[4], 0);
+    }
     Ok(())
 }

@@ -5,7 +5,8 @@ ghost use Rattle.record_table.specs.Closing.{AreAllPasses, IsWholePassOf, own_ca
 
 use crate::types::MichaelShape;
 use reclaim_none::NoReclaim;
-use record_table::{Pass, Scheme, Shape, Table, prepare};
+use record_memory::EPOCH;
+use record_table::{Cover, Pass, Shape, Table, prepare};
 use row_words::Generation;
 use set_model::AllocatorName;
 use std::alloc::AllocError;
@@ -14,17 +15,17 @@ use std::thread;
 use std::thread::Threads;
 
 // Loads the epoch a few times, and gives the pass back.
-fn look<S: Shape, R: Scheme>(table: &Table<S, R>, mut pass: Pass<S, R>) -> Pass<S, R>
+fn look<S: Shape, R: Cover>(table: &Table<S, R>, mut pass: Pass<S, R>) -> Pass<S, R>
     requires { IsWholePassOf table.now pass }
     ensures whole { IsWholePassOf table.now result }
     ensures caller { own_caller result ≡ own_caller pass }
 {
-    let _epoch = table.load_control(&mut pass, 1);
+    let _epoch = table.load_control(&mut pass, EPOCH);
     pass
 }
 
 // Two callers look at the table in two threads.
-fn look_both<S: Shape + Send, R: Scheme + Send>(
+fn look_both<S: Shape + Send, R: Cover + Send>(
     rt: &impl Threads,
     table: &Table<S, R>,
     first: Pass<S, R>,
@@ -39,7 +40,7 @@ fn look_both<S: Shape + Send, R: Scheme + Send>(
 }
 
 // Two callers look at the table in two threads, and come back in order of number.
-fn look_all<S: Shape + Send, R: Scheme + Send>(
+fn look_all<S: Shape + Send, R: Cover + Send>(
     rt: &impl Threads,
     table: &Table<S, R>,
     mut passes: Vec<Pass<S, R>>,

@@ -17,14 +17,14 @@ pub exchange_link-requires-clause-node : goal.exchange_link-requires-clause-node
 exchange_link-requires-clause-node c = c.read_held-key.ensures.held.holds
 
 pub exchange_link-requires-clause-allowed : goal.exchange_link-requires-clause-allowed
-exchange_link-requires-clause-allowed c = may_mark (view c.read_held-key.new.pass) _ c.in_ok-target.target c.read_held-key.result.1 _ c.read_held-key.ensures.key (ap (λ (l : LinkParts). l.flags) (sym c.link.view_is) ∙ c.if-link-ne0.false) (ap (λ (l : LinkParts). record { flags = 1; target = l.target }) c.link.view_is)
+exchange_link-requires-clause-allowed c = may_mark (view c.read_held-key.new.pass) _ c.in_ok-target.target c.read_held-key.result.1 _ c.read_held-key.ensures.key (ap (λ (l : LinkParts). l.flags) (sym c.link.view_is) ∙ c.if-link-ne0.false) c.marked-marked.ensures.link
 
 pub returns-clause-held : goal.returns-clause-held
-returns-clause-held c = let link : the_link c.link.inside ≡ c.read_held-key.result.1 = c.link.view_is in let new : IsLink (the_link (record { flags = 1; target = c.link.inside.target })) = search rules in (
+returns-clause-held c = (
   after_exchange c.read_held-key.new.pass c.exchange_link.new.pass c.in_ok-target.target c.exchange_link.ensures.pass c.read_held-key.ensures.held _ _ _ c.in-Ok.ensures.step,
   (
     c.in_ok-target.target.generation,
-    subst (λ (l : LinkParts). At (note_in (view c.exchange_link.new.pass).own.notes 0).words 0 (Some (packed_link c.in_ok-target.target.generation (marked_with l)))) link
-        (after_mark c.read_held-key.new.pass c.exchange_link.new.pass c.in_ok-target.target c.exchange_link.ensures.pass c.read_held-key.ensures.held _ _ _ c.in-Ok.ensures.step new refl),
+    subst (λ (l : LinkParts). At (note_in (view c.exchange_link.new.pass).own.notes 0).words 0 (Some (packed_link c.in_ok-target.target.generation l))) c.marked-marked.ensures.link
+        (after_mark c.read_held-key.new.pass c.exchange_link.new.pass c.in_ok-target.target c.exchange_link.ensures.pass c.read_held-key.ensures.held _ _ _ c.in-Ok.ensures.step c.marked-marked.ensures.in_range (ap (λ (l : LinkParts). l.flags) c.marked-marked.ensures.link)),
   ),
 )

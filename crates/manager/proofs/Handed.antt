@@ -1,0 +1,112 @@
+-- Handing a record out leaves the chains.
+use Rattle.std.proofs.Common.{◌≡◌, ◌≢◌, ℕ, zero, suc, ◌-◌, ◌<◌, ◌≤◌, List, get_or, sym, refl, ap, ◌∙◌, subst, arith, Some, None}
+use native.Mathlib.Decide.{ℕ_discrete}
+use Rattle.record_memory.specs.declared.books.Setup.{Setup}
+use Rattle.record_memory.specs.declared.books.View.{View}
+use Rattle.record_memory.specs.declared.books.Share.{Share}
+use Rattle.record_memory.specs.declared.books.Standing.{Standing}
+use Rattle.record_memory.specs.declared.books.Standing.TheVariants.{Handing, Own, Spare, TakenOut, Limbo, Free, Spent}
+use Rattle.row_words.specs.Refs.{RefParts}
+use Rattle.record_rule.specs.Kinds.{stored_as}
+use Rattle.record_rule.specs.HandingOut.{HasDrawn, handed_out, stores_from, fresh_row}
+use Rattle.record_rule.proofs.HandingOut.{share_known, share_then, standing_then, standing_last}
+use Rattle.reclaim_api.specs.Frames.{limbo_as}
+use Rattle.reclaim_api.proofs.Kept.{Stays}
+use Rattle.manager.proofs.OneShare.{LimboStays, others_stay, limbo_stays}
+
+-- a record that was drawn still is
+pub still_drawn : (v w : View) (r : RefParts) → w.setup ≡ v.setup → w.own.mine ≡ v.own.mine → HasDrawn v r → HasDrawn w r
+still_drawn v w r setup mine d = record {
+  within = subst (λ (k : Setup). r.index ≤ k.records) (sym setup) d.within;
+  share = d.share;
+  known = ap (λ m. get_or m (r.index - 1) None) mine ∙ d.known;
+  fresh = d.fresh;
+  generation = d.generation;
+  eight = d.eight;
+}
+
+-- a record that isn't being handed out
+abbrev pub IsChain : Standing → Type 0
+IsChain (Handing n) = ⊥
+IsChain Own = ⊥
+IsChain Spare = Unit {0}
+IsChain TakenOut = Unit {0}
+IsChain Limbo = Unit {0}
+IsChain Free = Unit {0}
+IsChain Spent = Unit {0}
+
+-- one that is, or was
+abbrev IsBusy : Standing → Type 0
+IsBusy (Handing n) = Unit {0}
+IsBusy Own = Unit {0}
+IsBusy Spare = ⊥
+IsBusy TakenOut = ⊥
+IsBusy Limbo = ⊥
+IsBusy Free = ⊥
+IsBusy Spent = ⊥
+
+-- they differ
+apart : (a b : Standing) → IsBusy a → IsChain b → a ≢ b
+apart a b busy chain e = clash b (subst IsBusy e busy) chain
+  where
+    clash : (s : Standing) → IsBusy s → IsChain s → ⊥
+    clash (Handing n) x y = y
+    clash Own x y = y
+    clash Spare x y = x
+    clash TakenOut x y = x
+    clash Limbo x y = x
+    clash Free x y = x
+    clash Spent x y = x
+
+-- neither is in limbo
+no_limbo : (h : Share) (s : Standing) → IsBusy s → limbo_as h s ≡ None
+no_limbo h (Handing n) b = refl
+no_limbo h Own b = refl
+no_limbo h Spare b = absurd b
+no_limbo h TakenOut b = absurd b
+no_limbo h Limbo b = absurd b
+no_limbo h Free b = absurd b
+no_limbo h Spent b = absurd b
+
+module _ (v : View) (r : RefParts) (birth : ℕ) (d : HasDrawn v r) where
+  abbrev row : List ℕ
+  row = fresh_row r.generation birth
+
+  abbrev at : ℕ → View
+  at n = stores_from v r.index row n
+
+  abbrev share : ℕ → Share
+  share n = share_then d.share row n
+
+  -- from its draw to its last store it is so
+  busy : (n : ℕ) → n < 9 → IsBusy (share n).standing
+  busy n lt = by (ℕ_discrete n 8)
+    where
+      by : Dec (n ≡ 8) → IsBusy (share n).standing
+      by (no ne) = subst IsBusy (sym (standing_then d.share row n d.fresh (omega arith))) tt
+      by (yes last) = subst (λ k. IsBusy (share k).standing) (sym last) (subst IsBusy (sym (standing_last d.share row d.fresh)) tt)
+
+  -- each store is one step
+  more : (n : ℕ) → at (suc n) ≡ stored_as (at n) r.index n (get_or row n 0) (Some (share n))
+  more n = ap (stored_as (at n) r.index n (get_or row n 0)) (share_known v r.index row d.share d.known n)
+
+  -- what is in limbo stays at each
+  limbo : (n : ℕ) → n < 9 → LimboStays v (at n)
+  limbo zero lt j = refl
+  limbo (suc n) lt j = limbo_stays (at n) (at (suc n)) r.index (share n) (share (suc n)) (share_known v r.index row d.share d.known n) (ap (λ (x : View). x.own.mine) (more n)) (no_limbo (share n) (share n).standing (busy n (omega arith))) (no_limbo (share (suc n)) (share (suc n)).standing (busy (suc n) (omega arith))) j
+      ∙ limbo n (omega arith) j
+
+  -- and so do records in chains
+  stay : (standing : Standing) → IsChain standing → (n : ℕ) → n < 9 → Stays standing v (at n)
+  stay standing chain zero lt i h known is = known
+  stay standing chain (suc n) lt i h known is = others_stay (at n) (at (suc n)) r.index (share n) (share (suc n)) (share_known v r.index row d.share d.known n) (ap (λ (x : View). x.own.mine) (more n)) standing
+      (apart (share n).standing standing (busy n (omega arith)) chain) i h (stay standing chain n (omega arith) i h known is) is
+
+module _ (v w : View) (r : RefParts) (birth : ℕ) (d : HasDrawn v r) (step : w ≡ handed_out v r birth) where
+  pub handed_limbo : LimboStays v w
+  unfolding handed_out
+  handed_limbo = subst (LimboStays v) (sym step) (limbo v r birth d 8 (omega arith))
+
+  pub handed_stay : (standing : Standing) → IsChain standing → Stays standing v w
+  unfolding handed_out
+  handed_stay standing chain = subst (Stays standing v) (sym step) (stay v r birth d standing chain 8 (omega arith))

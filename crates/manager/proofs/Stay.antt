@@ -1,0 +1,89 @@
+-- A caller after a call of its reclaimer, or after steps of its own.
+use Rattle.std.proofs.Common.{◌≡◌, ◌+◌, ◌-◌, List, ◌++◌, length, length-append, get_or, None, ap, ◌∙◌, arith}
+use Rattle.record_memory.specs.declared.steps.Step.{Step}
+use Rattle.record_memory.specs.declared.books.Book.{Book}
+use Rattle.record_memory.specs.declared.books.View.{View}
+use Rattle.record_memory.specs.declared.books.Setup.{Setup}
+use Rattle.record_memory.specs.declared.books.Standing.{Standing}
+use Rattle.record_memory.specs.declared.books.Standing.TheVariants.{Free, Spare}
+use Rattle.row_words.specs.declared.links.Chain.{Chain}
+use Rattle.row_words.specs.declared.links.Freed.{Freed}
+use Rattle.record_rule.specs.Facts.{CoverFacts}
+use Rattle.record_rule.specs.Kinds.{idle}
+use Rattle.record_rule.specs.Makes.{Makes}
+use Rattle.record_rule.proofs.Makes.{idle_mine, makes_then}
+use Rattle.record_table.specs.declared.passes.Pass.{Pass}
+use Rattle.record_table.specs.Handles.{view, IsSamePass}
+use Rattle.reclaim_api.specs.Chained.{IsChainOf}
+use Rattle.reclaim_api.specs.Guarding.{IsInside}
+use Rattle.reclaim_api.specs.Frames.{SamePart, in_limbo, LeavesRecords, FreesInto}
+use Rattle.reclaim_api.specs.Holds.{KeepsHeld}
+use Rattle.reclaim_api.proofs.Kept.{Stays, chain_stays, keeps_held, goes_on}
+use Rattle.manager.specs.Callers.{HasChains, IsResting, AnswersNone}
+use Rattle.manager.proofs.OneShare.{LimboStays}
+
+-- records of which the caller knows the same stay
+pub mine_stays : (standing : Standing) (v w : View) → w.own.mine ≡ v.own.mine → Stays standing v w
+mine_stays standing v w e i h known is = ap (λ m. get_or m (i - 1) None) e ∙ known
+
+module _ {S R L : Type 0} (is_local : L → View → Type 0) (p q : Pass S R) (l m : L) (free spare : Chain) (setup : (view q).setup ≡ (view p).setup) (h : HasChains is_local p l free spare) (local : is_local m (view q)) where
+  -- after a call that leaves each record
+  pub chains_stay : LeavesRecords (view p) (view q) → HasChains is_local q m free spare
+  chains_stay rest = let records = ap (λ (k : Setup). k.records) setup in record {
+    local = local;
+    frees = chain_stays Free (view p) (view q) records (mine_stays Free (view p) (view q) rest.mine) free h.frees;
+    spares = chain_stays Spare (view p) (view q) records (mine_stays Spare (view p) (view q) rest.mine) spare h.spares;
+    all = idle_mine (view p) (view q) rest.mine ∙ h.all;
+  }
+
+  -- after one that may free records
+  pub chains_freed : (freed : Chain) (f : Freed) → IsChainOf Free (view q) freed → FreesInto (view p) free f (view q) freed → Stays Spare (view p) (view q) → HasChains is_local q m freed spare
+  chains_freed freed f list into stay = record {
+    local = local;
+    frees = list;
+    spares = chain_stays Spare (view p) (view q) (ap (λ (k : Setup). k.records) setup) stay spare h.spares;
+    all = let a = into.idle in let b = into.count in let c = h.all in omega arith;
+  }
+
+-- some steps and then more
+pub makes_both : (u v w : View) (s t : List Step) → Makes u v s → Makes v w t → (steps : List Step) × Makes u w steps
+makes_both u v w s t a b = (s ++ t, makes_then u v w s t a b)
+
+-- after steps of its own
+module _ {S R : Type 0} (p q : Pass S R) (same : IsSamePass p q) (steps : List Step) (made : Makes (view p) (view q) steps) where
+  pub inside_after : IsInside p → IsInside q
+  inside_after h = record {
+    inside = ap (λ x. x.value) same.inside ∙ h.inside;
+    later = let e = ap (λ x. length x.value.me.0.own.steps) same.since in let a = h.later in let b = ap length made.appended in let c = length-append (view p).own.steps steps in omega arith;
+  }
+
+  -- it holds what it held
+  pub keeps_after : KeepsHeld p q
+  keeps_after = keeps_held p q (ap (λ x. x.value.me.0) same.since) same.setup (ap (λ (v : View). v.own.guard) made.rest) (ap (λ (v : View). v.own.notes) made.rest) (ap (λ (v : View). v.seen_updates) made.rest)
+
+  -- and answered no call
+  pub answers_after : AnswersNone (view p) (view q)
+  answers_after = record { answered = ap (λ (v : View). v.own.answered) made.rest; front = ap (λ (v : View). v.front) made.rest }
+
+  -- its chains are what these steps make of them
+  pub chains_after : {L : Type 0} {c : CoverFacts} (is_local : L → View → Type 0) (l : L) (free spare free' spare' : Chain) → ((l : L) (v w : View) → SamePart c v w → is_local l v → is_local l w) → HasChains is_local p l free spare → LimboStays (view p) (view q)
+      → IsChainOf Free (view q) free' → IsChainOf Spare (view q) spare' → idle (view q).own ≡ free'.count + spare'.count → HasChains is_local q l free' spare'
+  chains_after {c = c} is_local l free spare free' spare' stays h limbo frees spares all = record {
+    local = stays l (view p) (view q) (record { setup = same.setup; caller = same.caller; guard = goes_on c (view p).own.guard (view q).own.guard (ap (λ (v : View). v.own.guard) made.rest); limbo = limbo }) h.local;
+    frees = frees;
+    spares = spares;
+    all = all;
+  }
+
+-- a caller whose own book stays rests as before
+pub rests_still : {S R L : Type 0} {c : CoverFacts} (is_local : L → View → Type 0) (p q : Pass S R) (l : L) (free spare : Chain) (same : IsSamePass p q) → ((l : L) (v w : View) → SamePart c v w → is_local l v → is_local l w) → (view q).own ≡ (view p).own
+    → IsResting is_local (record { pass = p; local = l; free = free; spare = spare }) → IsResting is_local (record { pass = q; local = l; free = free; spare = spare })
+rests_still {c = c} is_local p q l free spare same stays own h = record {
+  outside = ap (λ x. x.value) same.inside ∙ h.outside;
+  chains = record {
+    local = stays l (view p) (view q) (record { setup = same.setup; caller = same.caller; guard = goes_on c (view p).own.guard (view q).own.guard (ap (λ (b : Book). b.guard) own); limbo = λ i. ap (λ (b : Book). in_limbo (get_or b.mine i None)) own }) h.chains.local;
+    frees = chain_stays Free (view p) (view q) (ap (λ (k : Setup). k.records) same.setup) (mine_stays Free (view p) (view q) (ap (λ (b : Book). b.mine) own)) free h.chains.frees;
+    spares = chain_stays Spare (view p) (view q) (ap (λ (k : Setup). k.records) same.setup) (mine_stays Spare (view p) (view q) (ap (λ (b : Book). b.mine) own)) spare h.chains.spares;
+    all = ap (λ (b : Book). idle b) own ∙ h.chains.all;
+  };
+}

@@ -1,0 +1,21 @@
+use Rattle.std.proofs.Common.{ap, ◌∙◌}
+use Rattle.record_memory.specs.declared.books.Setup.{Setup}
+use Rattle.record_memory.specs.declared.books.View.{View}
+use Rattle.record_memory.specs.declared.books.Standing.TheVariants.{Spare, Free}
+use Rattle.record_table.specs.Handles.{view}
+use Rattle.reclaim_api.proofs.Kept.{chain_stays}
+use Rattle.manager.proofs.Stay.{inside_after, chains_after}
+use Rattle.manager.proofs.Drawing.{draws_limbo, draws_stay, draws_idle, draws_makes}
+use Rattle.manager.proofs.records.draw.Goals as goal
+
+pub returns-clause-made : goal.returns-clause-made
+returns-clause-made g c = draws_makes (view c.args.caller.now.pass) (view c.draw.new.pass) c.draw.result c.draw.ensures.rest
+
+pub returns-clause-caller : goal.returns-clause-caller
+returns-clause-caller g c = let a = c.args.caller.now in let q = c.draw.new.pass in let e = c.draw.ensures in let h = c.requires.caller in let v : View = view a.pass in let w : View = view q in let m = returns-clause-made g c in let records = ap (λ (k : Setup). k.records) e.pass.setup in record {
+  inside = inside_after a.pass q e.pass m.0 m.1 h.inside;
+  chains = chains_after a.pass q e.pass m.0 m.1 _ a.local a.free a.spare a.free a.spare g.met.R.Scheme.local_stays h.chains (draws_limbo v w c.draw.result e.new e.rest)
+      (chain_stays Free v w records (draws_stay v w c.draw.result e.new e.rest Free) a.free h.chains.frees)
+      (chain_stays Spare v w records (draws_stay v w c.draw.result e.new e.rest Spare) a.spare h.chains.spares)
+      (draws_idle v w c.draw.result e.new e.rest ∙ h.chains.all);
+}

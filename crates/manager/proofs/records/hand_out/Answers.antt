@@ -1,0 +1,43 @@
+use Rattle.std.proofs.Common.{ap, sym, subst, ◌∙◌, List}
+use Rattle.record_memory.specs.declared.books.View.{View}
+use Rattle.record_memory.specs.declared.books.Setup.{Setup}
+use Rattle.record_memory.specs.declared.steps.Step.{Step}
+use Rattle.record_memory.specs.declared.books.Standing.TheVariants.{Spare, Free}
+use Rattle.record_table.specs.Handles.{view}
+use Rattle.record_rule.specs.Kinds.{idle}
+use Rattle.record_rule.specs.Makes.{Makes}
+use Rattle.record_rule.proofs.Makes.{handed_makes, handed_idle}
+use Rattle.record_rule.specs.HandingOut.{HasDrawn}
+use Rattle.reclaim_api.proofs.Kept.{chain_stays, held_then}
+use Rattle.manager.proofs.Stay.{chains_stay, inside_after, keeps_after, chains_after, answers_after}
+use Rattle.manager.proofs.Handed.{still_drawn, handed_limbo, handed_stay}
+use Rattle.manager.proofs.records.hand_out.Goals as goal
+
+pub hand_out-requires-clause-drawn : goal.hand_out-requires-clause-drawn
+hand_out-requires-clause-drawn g c = still_drawn (view c.args.caller.now.pass) (view c.birth-birth.new.pass) c.args.r c.birth-birth.ensures.pass.setup c.birth-birth.ensures.rest.mine c.requires.drawn
+
+-- the record is still to be handed out after the birth
+drawn : (g : _) (c : goal.After-hand_out g) → HasDrawn (view c.birth-birth.new.pass) c.args.r
+drawn g c = still_drawn (view c.args.caller.now.pass) (view c.birth-birth.new.pass) c.args.r c.birth-birth.ensures.pass.setup c.birth-birth.ensures.rest.mine c.requires.drawn
+
+-- the steps of the eight stores
+made : (g : _) (c : goal.After-hand_out g) → (steps : List Step) × Makes (view c.birth-birth.new.pass) (view c.hand_out.new.pass) steps
+made g c = let v : View = view c.birth-birth.new.pass in let m = handed_makes v c.args.r c.birth-birth.result (drawn g c) in (m.0, subst (λ (w : View). Makes v w m.0) (sym c.hand_out.ensures.steps) m.1)
+
+pub returns-clause-caller : goal.returns-clause-caller
+returns-clause-caller g c = let a = c.args.caller.now in let b = c.birth-birth.ensures in let e = c.hand_out.ensures in let q = c.birth-birth.new.pass in let z = c.hand_out.new.pass in let v : View = view q in let w : View = view z in let r = c.args.r in
+    let h = c.requires.caller in let mid = chains_stay _ a.pass q a.local c.birth-birth.new.local a.free a.spare b.pass.setup h.chains b.local b.rest in
+    let d = drawn g c in let n = c.birth-birth.result in let m = made g c in let records = ap (λ (k : Setup). k.records) e.pass.setup in record {
+      inside = inside_after q z e.pass m.0 m.1 b.inside;
+      chains = chains_after q z e.pass m.0 m.1 _ c.birth-birth.new.local a.free a.spare a.free a.spare g.met.R.Scheme.local_stays mid (handed_limbo v w r n d e.steps)
+          (chain_stays Free v w records (handed_stay v w r n d e.steps Free tt) a.free mid.frees)
+          (chain_stays Spare v w records (handed_stay v w r n d e.steps Spare tt) a.spare mid.spares)
+          (ap (λ (x : View). idle x.own) e.steps ∙ handed_idle v r n d ∙ mid.all);
+    }
+
+pub returns-clause-held : goal.returns-clause-held
+returns-clause-held g c = let a = c.args.caller.now in let q = c.birth-birth.new.pass in let z = c.hand_out.new.pass in let m = made g c in held_then a.pass q z c.birth-birth.ensures.held (keeps_after q z c.hand_out.ensures.pass m.0 m.1)
+
+pub returns-clause-answers : goal.returns-clause-answers
+returns-clause-answers g c = let q = c.birth-birth.new.pass in let z = c.hand_out.new.pass in let m = made g c in let x = answers_after q z c.hand_out.ensures.pass m.0 m.1 in let b = c.birth-birth.ensures.rest in
+    record { answered = x.answered ∙ b.answered; front = x.front ∙ b.front }

@@ -1,0 +1,29 @@
+use Rattle.std.proofs.Common.{◌≡◌, ◌+◌, ◌∙◌, ap, subst, refl, arith, Some}
+use Rattle.record_memory.specs.declared.books.View.{View}
+use Rattle.row_words.specs.Refs.{RefParts, IsRef}
+use Rattle.row_words.specs.declared.links.Chain.{Chain}
+use Rattle.record_table.specs.Handles.{view}
+use Rattle.manager.proofs.Stay.{inside_after, chains_after}
+use Rattle.manager.proofs.Spares.{room_for, pushed_makes, pushed_limbo, pushed_free, pushed_list}
+use Rattle.manager.proofs.records.set_spare.Goals as goal
+
+pub overflow_add-caller : goal.overflow_add-caller
+overflow_add-caller g c = let r = room_for (view c.args.caller.now.pass) c.args.caller.now.spare c.requires.caller.chains.spares in omega arith
+
+pub returns-clause-caller : goal.returns-clause-caller
+returns-clause-caller g c = let a = c.args.caller.now in let q = c.set_aside-r.new.pass in let v : View = view a.pass in let w : View = view q in let e = c.set_aside-r.ensures in let h = c.requires.caller in let list = h.chains.spares in
+    let after : Chain = record { head = Some c.set_aside-r.result; count = a.spare.count + 1 } in
+    let ref : IsRef c.args.own = subst IsRef (c.r.view_is ∙ e.record) c.r.invariant in let head : after.head ≡ Some c.args.own = ap (λ (z : RefParts). Some z) e.record in
+    let row = c.requires.own.0 in let own = c.requires.own.1 in let made = pushed_makes v w a.spare after c.args.own row list own ref e.step head refl in record {
+      inside = inside_after a.pass q e.pass _ made h.inside;
+      chains = chains_after a.pass q e.pass _ made _ a.local a.free a.spare a.free after g.met.R.Scheme.local_stays h.chains (pushed_limbo v w a.spare after c.args.own row list own ref e.step head refl)
+          (pushed_free v w a.spare after c.args.own row list own ref e.step head refl a.free h.chains.frees)
+          (pushed_list v w a.spare after c.args.own row list own ref e.step head refl)
+          (let i = e.idle in let all = h.chains.all in omega arith);
+    }
+
+pub returns-clause-made : goal.returns-clause-made
+returns-clause-made g c = let a = c.args.caller.now in let q = c.set_aside-r.new.pass in let v : View = view a.pass in let w : View = view q in let e = c.set_aside-r.ensures in
+    let after : Chain = record { head = Some c.set_aside-r.result; count = a.spare.count + 1 } in
+    let ref : IsRef c.args.own = subst IsRef (c.r.view_is ∙ e.record) c.r.invariant in let head : after.head ≡ Some c.args.own = ap (λ (z : RefParts). Some z) e.record in
+    (_, _, pushed_makes v w a.spare after c.args.own c.requires.own.0 c.requires.caller.chains.spares c.requires.own.1 ref e.step head refl)

@@ -1,0 +1,31 @@
+use Rattle.std.proofs.Common.{◌-◌, ℕ, [], ◌∷◌, refl, sym, subst, get_or, arith}
+use Rattle.record_memory.specs.declared.books.View.{View}
+use Rattle.record_memory.specs.declared.books.Standing.TheVariants.{Free}
+use Rattle.row_words.specs.declared.links.Chain.{Chain}
+use Rattle.record_rule.specs.Kinds.{field_load}
+use Rattle.record_rule.specs.Makes.{Makes}
+use Rattle.record_table.specs.Handles.{view}
+use Rattle.manager.proofs.Stay.{inside_after, chains_after}
+use Rattle.manager.proofs.Pops.{pop_count}
+use Rattle.manager.proofs.Takings.{first_free, again_makes, again_limbo, again_spare, again_rest}
+use Rattle.manager.proofs.records.take_free.Goals as goal
+
+pub take_free-r-requires-clause-free : goal.take_free-r-requires-clause-free
+take_free-r-requires-clause-free g c = let a = c.args.caller.now in first_free (view a.pass) (view a.pass) a.free a.free c.in_ok-first.first c.requires.caller.chains.frees c.in_ok-first.was
+
+pub returns-clause-caller : goal.returns-clause-caller
+returns-clause-caller g c = let a = c.args.caller.now in let q = c.take_free-r.new.pass in let v : View = view a.pass in let w : View = view q in let r = c.in_ok-first.first in let h = c.requires.caller in let e = c.take_free-r.ensures in
+    let list = h.chains.frees in let head = c.in_ok-first.was in
+    let after : Chain = record { head = c.take_free-r.result.1; count = a.free.count - 1 } in
+    let made = again_makes v w a.free after r list head e.step e.next refl in record {
+      inside = inside_after a.pass q e.pass _ made h.inside;
+      chains = chains_after a.pass q e.pass _ made _ a.local a.free a.spare after a.spare g.met.R.Scheme.local_stays h.chains (again_limbo v w a.free after r list head e.step e.next refl)
+          (again_rest v w a.free after r list head e.step e.next refl)
+          (again_spare v w a.free after r list head e.step e.next refl a.spare h.chains.spares)
+          (let i = e.idle in let all = h.chains.all in let some = pop_count Free v w a.free after r list head in omega arith);
+    }
+
+pub returns-clause-made : goal.returns-clause-made
+returns-clause-made g c = let a = c.args.caller.now in let v : View = view a.pass in let w : View = view c.take_free-r.new.pass in let r = c.in_ok-first.first in let e = c.take_free-r.ensures in let n : ℕ = get_or e.step.row 1 0 in
+    let after : Chain = record { head = c.take_free-r.result.1; count = a.free.count - 1 } in
+    (n, subst (λ (i : ℕ). Makes v w (field_load v i 1 n ∷ [])) (sym e.index) (again_makes v w a.free after r c.requires.caller.chains.frees c.in_ok-first.was e.step e.next refl))

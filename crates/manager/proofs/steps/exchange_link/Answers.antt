@@ -1,0 +1,14 @@
+use Rattle.record_table.specs.Handles.{view}
+use Rattle.record_table.specs.Nodes.{origin}
+use Rattle.manager.proofs.NodeSteps.{LeavesAll, inside_still, chains_still, exchange_leaves}
+use Rattle.manager.proofs.steps.exchange_link.Goals as goal
+
+-- what it leaves
+leaves : (g : _) (c : goal.After-exchange_link g) → LeavesAll g.R.Cover.facts (view c.args.caller.now.pass) (view c.exchange_link.new.pass)
+leaves g c = exchange_leaves g.R.Cover.facts (view c.args.caller.now.pass) (view c.exchange_link.new.pass) g.S.Shape.facts (origin c.args.node) c.args.expected c.args.new c.args.decides c.exchange_link.result c.exchange_link.ensures.step
+
+pub returns-clause-caller : goal.returns-clause-caller
+returns-clause-caller g c = let a = c.args.caller.now in let q = c.exchange_link.new.pass in let same = c.exchange_link.ensures.pass in let l = leaves g c in record {
+  inside = inside_still g.R.Scheme.is_local a.pass q same a.local a.free a.spare g.met.R.Scheme.local_stays l c.requires.caller.inside;
+  chains = chains_still g.R.Scheme.is_local a.pass q same a.local a.free a.spare g.met.R.Scheme.local_stays l c.requires.caller.chains;
+}

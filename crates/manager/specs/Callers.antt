@@ -1,0 +1,38 @@
+-- What clauses say of a caller, inside an operation and outside.
+use Rattle.std.specs.Prelude.{◌≡◌, ◌+◌, false}
+use Rattle.record_memory.specs.declared.books.View.{View}
+use Rattle.record_memory.specs.declared.books.Standing.TheVariants.{Free, Spare}
+use Rattle.row_words.specs.declared.links.Chain.{Chain}
+use Rattle.record_table.specs.declared.passes.Pass.{Pass}
+use Rattle.record_table.specs.Handles.{view, is_inside}
+use Rattle.record_rule.specs.Kinds.{idle}
+use Rattle.reclaim_api.specs.Chained.{IsChainOf}
+use Rattle.reclaim_api.specs.Guarding.{IsInside}
+use Rattle.manager.specs.declared.types.Caller.{Caller}
+
+-- its local part is its own, and its two chains are lists through word 1 of just its free and its spare records
+pub record HasChains {S R L : Type 0} (is_local : L → View → Type 0) (p : Pass S R) (l : L) (fs ss : Chain) : Type 0 where
+  pub local : is_local l (view p)
+  pub frees : IsChainOf Free (view p) fs
+  pub spares : IsChainOf Spare (view p) ss
+  -- no record is free or spare beside
+  pub all : idle (view p).own ≡ fs.count + ss.count
+
+module _ {S R L : Type 0} (is_local : L → View → Type 0) where
+  abbrev pub Chains : Caller S R L → Type 0
+  Chains c = HasChains is_local c.pass c.local c.free c.spare
+
+  -- it is lent to a guard that isn't spent
+  pub record IsWorking (c : Caller S R L) : Type 0 where
+    pub inside : IsInside c.pass
+    pub chains : Chains c
+
+  -- it isn't
+  pub record IsResting (c : Caller S R L) : Type 0 where
+    pub outside : is_inside c.pass ≡ false
+    pub chains : Chains c
+
+-- no call was answered, and of no update it is known that it comes before
+pub record AnswersNone (v w : View) : Type 0 where
+  pub answered : w.own.answered ≡ v.own.answered
+  pub front : w.front ≡ v.front

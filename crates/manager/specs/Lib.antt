@@ -1,0 +1,4 @@
+pub mod Callers
+pub mod Manners
+pub mod Guards
+pub mod Made

@@ -1,0 +1,89 @@
+-- What a reclaimer's calls leave as it was.
+use Rattle.std.specs.Prelude.{◌≡◌, ◌≢◌, ℕ, ◌+◌, ◌-◌, ◌&&◌, slice_index_or, List, ◌++◌, Bool, Option, Some, None}
+use Rattle.record_memory.specs.declared.steps.Step.{Step}
+use Rattle.record_memory.specs.declared.books.Book.{Book}
+use Rattle.record_memory.specs.declared.books.Guard.{Guard}
+use Rattle.record_memory.specs.declared.books.View.{View}
+use Rattle.record_memory.specs.declared.books.Share.{Share}
+use Rattle.record_memory.specs.declared.books.Standing.{Standing}
+use Rattle.record_memory.specs.declared.books.Standing.TheVariants.{Handing, Own, Spare, TakenOut, Limbo, Free, Spent}
+use Rattle.row_words.specs.declared.links.Chain.{Chain}
+use Rattle.row_words.specs.declared.links.Freed.{Freed}
+use Rattle.record_rule.specs.Facts.{Moment, CoverFacts}
+use Rattle.record_rule.specs.Guards.{started_if}
+use Rattle.record_rule.specs.Kinds.{retired_one, share_in, idle}
+
+-- what is known of a record in limbo; of others nothing
+abbrev pub limbo_as : Share → Standing → Option Share
+limbo_as h (Handing n) = None
+limbo_as h Own = None
+limbo_as h Spare = None
+limbo_as h TakenOut = None
+limbo_as h Limbo = Some h
+limbo_as h Free = None
+limbo_as h Spent = None
+
+abbrev pub in_limbo : Option Share → Option Share
+in_limbo None = None
+in_limbo (Some h) = limbo_as h h.standing
+
+-- the guard is the same, or started with a load of a link, where the reclaimer has guards start so
+pub record GoesOn (c : CoverFacts) (g h : Guard) : Type 0 where
+  pub first : Bool
+  pub moment : Moment
+  pub step : ℕ
+  pub guard : h ≡ started_if (c.begins_loading && first) moment g step
+
+-- all that a reclaimer's local part depends on is the same, but that the guard may have started
+pub record SamePart (c : CoverFacts) (v w : View) : Type 0 where
+  pub setup : w.setup ≡ v.setup
+  pub caller : w.own.caller ≡ v.own.caller
+  pub guard : GoesOn c v.own.guard w.own.guard
+  pub limbo : (i : ℕ) → in_limbo (slice_index_or w.own.mine i None) ≡ in_limbo (slice_index_or v.own.mine i None)
+
+-- what is known of a record that a call which frees leaves alone
+abbrev pub rest_as : Share → Standing → Option Share
+rest_as h (Handing n) = Some h
+rest_as h Own = Some h
+rest_as h Spare = Some h
+rest_as h TakenOut = Some h
+rest_as h Limbo = None
+rest_as h Free = None
+rest_as h Spent = None
+
+abbrev pub in_rest : Option Share → Option Share
+in_rest None = None
+in_rest (Some h) = rest_as h h.standing
+
+-- of the records that aren't in limbo, free or spent, and of its answered calls, the caller knows the same, and of moves it made none but those that freed records
+pub record LeavesRest (v w : View) : Type 0 where
+  pub rest : (i : ℕ) → in_rest (share_in w i) ≡ in_rest (share_in v i)
+  pub moves : record w.own.moves { freed = v.own.moves.freed } ≡ v.own.moves
+  pub answered : w.own.answered ≡ v.own.answered
+  pub front : w.front ≡ v.front
+
+-- the same but for the record with this index, which was retired and is in limbo, free or spent now
+pub record LeavesRestBut (i : ℕ) (v w : View) : Type 0 where
+  pub rest : (j : ℕ) → j ≢ i - 1 → in_rest (slice_index_or w.own.mine j None) ≡ in_rest (slice_index_or v.own.mine j None)
+  pub gone : in_rest (share_in w i) ≡ None
+  pub moves : record w.own.moves { freed = v.own.moves.freed } ≡ retired_one v.own.moves
+  pub answered : w.own.answered ≡ v.own.answered
+  pub front : w.front ≡ v.front
+
+-- of each record, and of its answered calls, the caller knows the same, and it made no move of a record
+pub record LeavesRecords (v w : View) : Type 0 where
+  pub mine : w.own.mine ≡ v.own.mine
+  pub moves : w.own.moves ≡ v.own.moves
+  pub answered : w.own.answered ≡ v.own.answered
+  pub front : w.front ≡ v.front
+
+-- steps were added to those that the caller made
+abbrev pub AddsSteps : Book → Book → Type 0
+AddsSteps b c = (more : List Step) × (c.steps ≡ b.steps ++ more)
+
+-- what left limbo and isn't spent is free, and stands in the chain of free records
+pub record FreesInto (v : View) (before : Chain) (f : Freed) (w : View) (after : Chain) : Type 0 where
+  pub idle : idle w.own + f.spent ≡ idle v.own + f.freed
+  pub count : after.count + f.spent ≡ before.count + f.freed
+  -- each that left limbo was freed
+  pub freed : w.own.moves.freed ≡ v.own.moves.freed + f.freed

@@ -1,0 +1,4 @@
+pub mod Chained
+pub mod Frames
+pub mod Guarding
+pub mod Holds

@@ -1,0 +1,114 @@
+-- What one call of a guard did, and the steps that it made.
+use Rattle.std.specs.Prelude.{◌≡◌, ◌≢◌, ℕ, [], ◌∷◌, ◌++◌, Option, Some, None, Bool, true, false}
+use Rattle.set_model.specs.declared.calls.Call.{Call}
+use Rattle.record_memory.specs.declared.steps.Step.{Step}
+use Rattle.record_memory.specs.declared.steps.Word.TheVariants.{Field, Drawn}
+use Rattle.record_memory.specs.declared.steps.StepKind.{StepKind}
+use Rattle.record_memory.specs.declared.steps.StepKind.TheVariants.{Load, Store, Exchange}
+use Rattle.record_memory.specs.declared.books.Setup.{Setup}
+use Rattle.record_memory.specs.declared.books.Book.{Book}
+use Rattle.record_memory.specs.declared.books.View.{View}
+use Rattle.row_words.specs.Refs.{RefParts, LinkParts}
+use Rattle.row_words.specs.Packing.{key_in, link_in, packed_number}
+use Rattle.row_words.specs.declared.links.Freed.{Freed}
+use Rattle.record_rule.specs.Facts.{clean}
+use Rattle.record_rule.specs.Kinds.{idle}
+use Rattle.record_rule.specs.HandingOut.{handed_out}
+use Rattle.record_rule.specs.Links.{index_of, held_at, link_word}
+use Rattle.record_table.specs.declared.nodes.Node.{Node}
+use Rattle.record_table.specs.Nodes.{origin}
+use Rattle.reclaim_api.specs.declared.holding.Holding.{Holding}
+use Rattle.record_pieces.specs.Manners.{Manner}
+
+pub data Event : Type 0 where
+  begun : Event
+  -- a try to hold: for which place, from which node and word, and its answer
+  hopped : ℕ → Node → ℕ → Holding → Event
+  -- the key of a held record
+  keyed : RefParts → ℕ → Event
+  -- the link in a node's word
+  looked : Node → ℕ → LinkParts → Event
+  -- an exchange of a node's link: what was expected, the new one, the call that it decides, and what a refusal found
+  exchanged : Node → ℕ → LinkParts → LinkParts → Option Call → Option LinkParts → Event
+  -- the same to link an own record
+  published : Node → ℕ → LinkParts → RefParts → Option Call → Option LinkParts → Event
+  -- the same to take the next record out, from its clean link
+  unlinked : Node → ℕ → RefParts → LinkParts → Option LinkParts → Event
+  -- an own record was got; or none, with what the draw found
+  took : RefParts → Event
+  refused : ℕ → Event
+  -- a word of an own record was stored
+  stored_own : RefParts → ℕ → ℕ → Event
+  gave_back : RefParts → Event
+  retired : RefParts → Event
+  -- a read was placed
+  placed : Call → Bool → Event
+  ended : Event
+
+-- one step more
+abbrev pub OneStep : Book → Step → Book → Type 0
+OneStep b t c = c.steps ≡ b.steps ++ t ∷ []
+
+-- a step on a node's word
+abbrev pub node_step : Book → StepKind → Node → ℕ → ℕ → ℕ → Step
+node_step b kind at f found left = record { kind = kind; word = Field (index_of (origin at)) f; held = held_at (origin at); found = found; left = left; idle = idle b }
+
+-- the load of a held record's key
+abbrev pub key_load : Book → RefParts → ℕ → Step
+key_load b r n = record { kind = Load; word = Field r.index 4; held = Some r; found = n; left = n; idle = idle b }
+
+-- the owner's load and store of a word of its record
+abbrev pub own_load : Book → RefParts → ℕ → ℕ → Step
+own_load b r f n = record { kind = Load; word = Field r.index f; held = None; found = n; left = n; idle = idle b }
+
+abbrev pub own_store : Book → RefParts → ℕ → ℕ → ℕ → Step
+own_store b r f found left = record { kind = Store; word = Field r.index f; held = None; found = found; left = left; idle = idle b }
+
+-- the load that places a read, of the word that counts the records drawn
+abbrev pub placing_load : Book → ℕ → Step
+placing_load b n = record { kind = Load; word = Drawn; held = None; found = n; left = n; idle = idle b }
+
+-- an exchange of the node's link: it left the new one, or found another than was expected
+abbrev pub Exchanges : Setup → Node → ℕ → LinkParts → LinkParts → Option LinkParts → Book → Book → Type 0
+Exchanges k at f expected new None b c = OneStep b (node_step b Exchange at f (link_word k (origin at) expected) (link_word k (origin at) new)) c
+Exchanges k at f expected new (Some link) b c = (n : ℕ) × (link ≡ link_in n) × (link ≢ expected) × OneStep b (node_step b Exchange at f n n) c
+
+-- the stores of the eight words of a record that is handed out
+abbrev pub HandsOut : RefParts → ℕ → Book → Book → Type 0
+HandsOut r birth b c = (v : View) × (w : View) × (v.own ≡ b) × (w.own ≡ c) × (w ≡ handed_out v r birth)
+
+module _ (m : Manner) (k : Setup) where
+  -- how a record was got that is no spare one: from the free chain, from a chain of the pool's, or drawn
+  pub data Gets (b : Book) (r : RefParts) : Book → Type 0 where
+    from_free : (n : ℕ) (c : Book) → OneStep b (own_load b r 1 n) c → Gets b r c
+    from_pool : (d : Book) (n : ℕ) (c : Book) → m.takes k b true d → OneStep d (own_load d r 1 n) c → Gets b r c
+    from_draw : (d c : Book) → m.takes k b false d → m.draws k d r c → Gets b r c
+
+  -- an own record was got: a spare one, or one that was handed out
+  pub data Takes (b : Book) (r : RefParts) (c : Book) : Type 0 where
+    from_spare : (n : ℕ) → OneStep b (own_load b r 1 n) c → Takes b r c
+    handed : (d e : Book) (birth : ℕ) → Gets b r d → m.bears k d birth e → HandsOut r birth e c → Takes b r c
+
+  -- none was got: no record was idle, the pool had no chain, and the draw found none left
+  pub record FindsNone (b : Book) (n : ℕ) (c : Book) : Type 0 where
+    pub idle_is : idle b ≡ 0
+    pub between : Book
+    pub took : m.takes k b false between
+    pub refused : m.refuses k between n c
+
+  -- the steps of an event
+  abbrev pub Does : Event → Book → Book → Type 0
+  Does begun b c = (f : Freed) × m.enters k b f c
+  Does (hopped p at f h) b c = m.reaches k p at f b h c
+  Does (keyed r key) b c = (n : ℕ) × (key ≡ key_in n) × OneStep b (key_load b r n) c
+  Does (looked at f link) b c = (n : ℕ) × (link ≡ link_in n) × OneStep b (node_step b Load at f n n) c
+  Does (exchanged at f expected new call refusal) b c = Exchanges k at f expected new refusal b c
+  Does (published at f expected own call refusal) b c = Exchanges k at f expected (clean own) refusal b c
+  Does (unlinked at f gone new refusal) b c = Exchanges k at f (clean gone) new refusal b c
+  Does (took r) b c = Takes b r c
+  Does (refused n) b c = FindsNone b n c
+  Does (stored_own r f payload) b c = (found : ℕ) × OneStep b (own_store b r f found (packed_number r.generation payload)) c
+  Does (gave_back r) b c = (found : ℕ) × (left : ℕ) × OneStep b (own_store b r 1 found left) c
+  Does (retired r) b c = (f : Freed) × m.puts_away k b r f c
+  Does (placed call reply) b c = (n : ℕ) × OneStep b (placing_load b n) c
+  Does ended b c = m.leaves k b c
