@@ -8,10 +8,10 @@ use Rattle.record_memory.specs.declared.books.Setup.{Setup}
 use Rattle.record_rule.specs.Inputs.{ShapeCell, linked, out, ShapeInput, Start, Trace}
 use Rattle.record_rule.specs.Facts.{At, link_at, key_at, HasMark, Near, at_root, at_held, ShapeFacts}
 use Rattle.record_rule.specs.Laws.{NodeIs, root_at, TargetSeen, no_target, lost, there, there_out}
-use Rattle.list_facts.specs.Lists.{ListFits, Spot, IsSpot}
+use Rattle.list_facts.specs.Lists.{ListFits, Spot, IsSpot, LeadsUp}
 use Rattle.list_facts.specs.Tellings.{IsPresent, ListTold, rank_of, rank_at, home_at, IsTargetSeen, ListShown}
 use Rattle.list_facts.proofs.Spots.{nothing_between}
-use Rattle.list_facts.proofs.Cells.{linked_spot, no_spot, rank_linked, ordered}
+use Rattle.list_facts.proofs.Cells.{linked_spot, one_spot, no_spot, rank_linked, ordered}
 use Rattle.list_facts.proofs.Nodes.{cell_near, spot_near, cell_fits, spot_fits, target_is}
 
 -- what stands at a link's target, where that was seen, has the rank that was seen
@@ -25,6 +25,17 @@ above_seen s setup cells (there u body m at) t k a is seen stands high =
 above_seen s setup cells (there_out u body m n at) t k a is seen stands high =
     let same : u ≡ t = cc in
     absurd (no_spot setup cells (t.index - 1) (out t.generation body m n) a (subst (λ (r : RefParts). At cells (r.index - 1) (out r.generation body m n)) same at) refl stands)
+
+-- what a link leads up to, where that was seen, stands in the same list, and further up
+up_seen : (s : ShapeFacts) (setup : Setup) (cells : List ShapeCell) {link : Option RefParts} {target : Option (List ℕ)} → TargetSeen s cells link target → (a : Spot) → ((t : RefParts) → link ≡ Some t → LeadsUp setup cells a t) → (b : List ℕ) → target ≡ Some b
+    → (key_at b % setup.roots ≡ a.home) × (a.rank < key_at b + 1)
+up_seen s setup cells no_target a leads b is = let no : ⊥ = cc in absurd no
+up_seen s setup cells (lost t) a leads b is = let no : ⊥ = cc in absurd no
+up_seen s setup cells (there t body m at) a leads b is = let (c, named, stands, generation, home, up) = leads t refl in
+    let same : body ≡ b = cc in
+    let spot : c ≡ linked_spot setup t.generation b = one_spot setup cells (t.index - 1) c (linked_spot setup t.generation b) stands (linked t.generation b m, subst (λ (z : List ℕ). At cells (t.index - 1) (linked t.generation z m)) same at, refl) in
+    (sym (ap (λ (z : Spot). z.home) spot) ∙ home, subst (λ (z : Spot). a.rank < z.rank) spot up)
+up_seen s setup cells (there_out t body m n at) a leads b is = let (c, named, stands, generation, home, up) = leads t refl in absurd (no_spot setup cells (t.index - 1) (out t.generation body m n) c at refl stands)
 
 -- a held record's cell is no root's
 linked_at : (s : ShapeFacts) (cells : List ShapeCell) (near : Near) (i generation m : ℕ) (body : List ℕ) → root_at s near ≡ None → At cells i (cell_near near generation body m) → At cells i (linked generation body m)
@@ -47,4 +58,5 @@ module _ {flags : ℕ → Type 0} {setup : Setup} {x : ShapeInput} {h : Trace} (
   shows start = record {
     between = λ clear field known k home low high. false_from_ne_true (contains (keys_of h.updates) k) (λ has. none_between clear field known k home low high ((told.keys k).0 has));
     present = λ clear held. (told.keys (key_at n.body)).1 (n.index, n.generation, n.marked, n.body, linked_at s x.cells near n.index n.generation n.marked n.body held (cell_fits fits n.fits clear), clear, refl);
+    up = λ clear field. up_seen s setup x.cells seen (spot_near s setup near n.generation n.body) (λ t e. fits.next n.index (spot_near s setup near n.generation n.body) t (spot_fits fits n.fits clear) (target_is n field ∙ e));
   }

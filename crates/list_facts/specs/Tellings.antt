@@ -61,3 +61,5 @@ pub record ListShown (setup : Setup) (y : Sight) (updates : List Update) : Type 
   pub between : ¬ HasMark (link_at y.body 3) → y.field ≡ 3 → IsTargetSeen (link_at y.body 3).target y.target → NoneWithin setup (home_at setup y.node y.body) (rank_at y.node y.body) (rank_of y.target) updates
   -- the node's key is
   pub present : ¬ HasMark (link_at y.body 3) → y.node ≡ None → contains (keys_of updates) (key_at y.body) ≡ true
+  -- what the link leads to stands in the same list, behind the node
+  pub up : ¬ HasMark (link_at y.body 3) → y.field ≡ 3 → (b : List ℕ) → y.target ≡ Some b → (key_at b % setup.roots ≡ home_at setup y.node y.body) × (rank_at y.node y.body < key_at b + 1)
