@@ -15,7 +15,7 @@ use Rattle.list_facts.proofs.Spots.{Alike}
 use Rattle.list_facts.proofs.Cells.{no_spot, rank_linked}
 
 -- the key of a note is the body's
-noted_key : (s : ShapeFacts) (note : Note) (body : List ℕ) → FitsNote s note body → (n : ℕ) × At note.words 1 (Some n) → key_noted note ≡ key_at body
+pub noted_key : (s : ShapeFacts) (note : Note) (body : List ℕ) → FitsNote s note body → (n : ℕ) × At note.words 1 (Some n) → key_noted note ≡ key_at body
 noted_key s note body known (n, at) = ap key_in_note (get_at note.words 1 (Some n) None at) ∙ ap key_in (sym (known 1 n at).0)
 
 -- a held record is the one that its reference names
