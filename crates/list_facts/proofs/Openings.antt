@@ -20,7 +20,7 @@ use Rattle.list_facts.proofs.Bodies.{clear_flags}
 use Rattle.list_facts.proofs.Cells.{spot_is}
 
 -- the link of a blank root
-blank_link : (first : ℕ) → link_at (root_body first) 3 ≡ record { flags = 0; target = None }
+pub blank_link : (first : ℕ) → link_at (root_body first) 3 ≡ record { flags = 0; target = None }
 unfolding packed_number link_in ref_in
 blank_link first =
     let low : (first * 2 ^ 44 + 0) % 2 ^ 40 ≡ 0 = omega arith in
@@ -37,7 +37,7 @@ module _ (setup : Setup) where
   blank = root setup.first (root_body setup.first) 0
 
   -- a cell of a new table is a blank root or hidden
-  opens : (i : ℕ) (c : ShapeCell) → At (opening_shape setup).cells i c → (c ≡ blank) ⊎ (c ≡ hidden)
+  pub opens : (i : ℕ) (c : ShapeCell) → At (opening_shape setup).cells i c → (c ≡ blank) ⊎ (c ≡ hidden)
   opens i c at = ⊎_elim (λ p. inl (sym p.1)) (λ p. inr (sym p.1)) (at_runs setup.roots (setup.records - setup.roots) i blank hidden c at)
 
   -- so what stands in it is a root without a target

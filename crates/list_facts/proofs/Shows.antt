@@ -41,7 +41,7 @@ body_seen s setup cells (there_out u body m n at) t a b is seen stands =
     absurd (no_spot setup cells (t.index - 1) (out t.generation body m n) a (subst (λ (r : RefParts). At cells (r.index - 1) (out r.generation body m n)) same at) refl stands)
 
 -- a link whose target was seen leads somewhere
-leads_seen : (s : ShapeFacts) (cells : List ShapeCell) {link : Option RefParts} {target : Option (List ℕ)} → TargetSeen s cells link target → (b : List ℕ) → target ≡ Some b → (t : RefParts) × (link ≡ Some t)
+pub leads_seen : (s : ShapeFacts) (cells : List ShapeCell) {link : Option RefParts} {target : Option (List ℕ)} → TargetSeen s cells link target → (b : List ℕ) → target ≡ Some b → (t : RefParts) × (link ≡ Some t)
 leads_seen s cells no_target b e = let no : ⊥ = cc in absurd no
 leads_seen s cells (lost t) b e = let no : ⊥ = cc in absurd no
 leads_seen s cells (there t body m at) b e = (t, refl)

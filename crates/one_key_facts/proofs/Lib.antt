@@ -1,0 +1,7 @@
+pub mod Cells
+pub mod Marking
+pub mod Linking
+pub mod TakingOut
+pub mod Opening
+pub mod Shows
+pub mod OneKeyLaws
