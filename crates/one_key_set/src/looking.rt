@@ -1,0 +1,95 @@
+// A look at what a root leads to.
+ghost use Rattle.std.specs.Prelude.{◌≡◌, ◌<◌};
+ghost use Rattle.record_table.specs.Handles.{setup_of, view};
+ghost use Rattle.record_table.specs.Nodes.{HoldsThere};
+ghost use Rattle.manager.specs.Guards.{IsAtWork};
+ghost use Rattle.one_key_set.specs.Going.{GoesOn};
+ghost use Rattle.one_key_set.specs.Knowing.{HoldsKey, KnowsMark, IsSeen};
+
+use crate::shape::OneKeyShape;
+use alloc_api::Allocator;
+use manager::Guard;
+use pool::Pool;
+use reclaim_api::{Holding, Scheme};
+use record_memory::LINK;
+use record_table::{Held, Node};
+use row_words::Link;
+
+/// What a look at a root came to.
+#[derive(Debug, PartialEq, Eq, Drop)]
+pub enum Seen {
+    /// The root leads nowhere: its key is absent.
+    Absent,
+    /// It leads to a record without a mark: its key is present.
+    Present(Held),
+    /// A word had changed, or the record had a mark and was taken out.
+    Changed,
+}
+
+// The same record held once more: one value goes to one call.
+pub(crate) fn same(at: &Held) -> Held
+    ensures { result ≡ at.now }
+{
+    Held {
+        place: at.place,
+        target: at.target,
+    }
+}
+
+// Takes a marked record out behind its root, and retires it. Another caller may be first.
+pub(crate) fn take_out<'a, R: Scheme, A: Allocator, P: Pool>(
+    guard: &mut Guard<'a, OneKeyShape, R, A, P>,
+    key: u32,
+    gone: Held,
+)
+    requires at_work { IsAtWork guard.old }
+    requires key { key < (setup_of guard.old.manager.now.table).roots }
+    requires gone { HoldsThere guard.old.caller.now.pass gone }
+    requires marked { KnowsMark guard.old.caller.now.pass gone }
+    ensures at_work { IsAtWork guard.new }
+    ensures on { GoesOn guard.old guard.new }
+{
+    if let Ok(taken) = guard.unlink(Node::Root(key), LINK, gone, Link::to(None)) {
+        guard.retire(taken);
+    }
+}
+
+// Looks at the mark of the record that a root led to, and takes the record out where it has one.
+fn look_at<'a, R: Scheme, A: Allocator, P: Pool>(
+    guard: &mut Guard<'a, OneKeyShape, R, A, P>,
+    key: u32,
+    at: Held,
+) -> Seen
+    requires at_work { IsAtWork guard.old }
+    requires key { key < (setup_of guard.old.manager.now.table).roots }
+    requires at { HoldsKey guard.old.caller.now.pass key at }
+    ensures at_work { IsAtWork guard.new }
+    ensures on { GoesOn guard.old guard.new }
+    ensures seen { IsSeen guard.new.caller.now.pass key result }
+{
+    let link = guard.load_link(Node::At(same(&at)), LINK);
+    if link.is_marked() {
+        take_out(guard, key, at);
+        return Seen::Changed;
+    }
+    Seen::Present(at)
+}
+
+// Looks at what the root of a key leads to.
+pub(crate) fn look<'a, R: Scheme, A: Allocator, P: Pool>(
+    guard: &mut Guard<'a, OneKeyShape, R, A, P>,
+    key: u32,
+) -> Seen
+    requires at_work { IsAtWork guard.old }
+    requires key { key < (setup_of guard.old.manager.now.table).roots }
+    ensures at_work { IsAtWork guard.new }
+    ensures on { GoesOn guard.old guard.new }
+    ensures seen { IsSeen guard.new.caller.now.pass key result }
+{
+    match guard.hold(0, Node::Root(key), LINK) {
+        Holding::Null => Seen::Absent,
+        Holding::Held(at) => look_at(guard, key, at),
+        Holding::Marked(_) => Seen::Changed,
+        Holding::Moved { found: _ } => Seen::Changed,
+    }
+}
