@@ -1,5 +1,5 @@
--- What was seen of a key may be answered; and what the caller knows once a call of it was read, or decided.
-use Rattle.std.proofs.Common.{◌≡◌, ℕ, ◌+◌, ◌-◌, List, [], ◌∷◌, ◌++◌, length, length-append, take, Bool, true, false, not, Option, Some, None, sym, refl, ap, ◌∙◌, subst, arith}
+-- What was seen of a key may be answered; and what the caller knows once it was.
+use Rattle.std.proofs.Common.{◌≡◌, ℕ, ◌+◌, ◌-◌, List, [], ◌∷◌, ◌++◌, length, length-append, take, Bool, true, false, not, sym, refl, ap, ◌∙◌, subst, arith}
 use Rattle.std.proofs.lemmas.List.{take-append-le, length-take-le}
 use Rattle.std.proofs.Math.Seq.{take-length, take-append-add}
 use Rattle.set_model.specs.declared.calls.Call.{Call}
@@ -11,12 +11,10 @@ use Rattle.set_model.specs.Histories.{keys_of}
 use Rattle.record_memory.specs.declared.books.Setup.{Setup}
 use Rattle.record_memory.specs.declared.books.View.{View}
 use Rattle.record_memory.specs.declared.books.Answered.{Answered}
-use Rattle.row_words.specs.Refs.{RefParts, LinkParts}
-use Rattle.record_rule.specs.Facts.{ShapeFacts, update_for}
-use Rattle.record_rule.specs.Laws.{with_update}
+use Rattle.record_rule.specs.Facts.{ShapeFacts}
 use Rattle.record_rule.specs.Machines.{set_replies, replies_for}
 use Rattle.record_rule.specs.World.{StartsWith}
-use Rattle.record_rule.specs.Links.{Origin, read_at, entry_for, own_update, ExchangedLink, PublishedLink}
+use Rattle.record_rule.specs.Links.{read_at}
 use Rattle.record_rule.specs.Placing.{placed_view}
 use Rattle.record_rule.proofs.Rebuilt.{starts_then}
 use Rattle.record_table.specs.declared.passes.Pass.{Pass}
@@ -24,9 +22,7 @@ use Rattle.record_table.specs.Handles.{view}
 use Rattle.record_table.specs.Nodes.{MayPlaceIn}
 use Rattle.manager.specs.Callers.{AnswersNone}
 use Rattle.one_key_set.specs.Knowing.{HasSeenKey}
-use Rattle.one_key_set.specs.declared.answers.Added.{Added}
-use Rattle.one_key_set.specs.declared.answers.Added.TheVariants.{Done, Full, Again}
-use Rattle.one_key_set.specs.Answers.{Decided, Read, Tells, SearchTells, InsertTells}
+use Rattle.one_key_set.specs.Answers.{Read}
 
 -- how a call that changes nothing is answered where its key is present, or isn't
 pub data IsAnswer : Call → Bool → Bool → Type 0 where
@@ -68,7 +64,8 @@ pub read_placed : (s : ShapeFacts) (v u w : View) (found position : ℕ) (call :
 read_placed s v u w found position call reply none setup may whole is = record {
   behind = let m = may.may.behind in let d = whole.1 in (
     take (position - length u.front) whole.0,
-    front ∙ ap (take position) d ∙ ap (λ k. take k (u.front ++ whole.0)) (let z : position ≡ length u.front + (position - length u.front) = omega arith in z) ∙ take-append-add u.front whole.0 (position - length u.front) ∙ ap (λ (l : List Update). l ++ take (position - length u.front) whole.0) none.front,
+    front ∙ ap (take position) d ∙ ap (λ k. take k (u.front ++ whole.0)) (let z : position ≡ length u.front + (position - length u.front) = omega arith in z)
+        ∙ take-append-add u.front whole.0 (position - length u.front) ∙ ap (λ (l : List Update). l ++ take (position - length u.front) whole.0) none.front,
   );
   replies = subst (λ (k : Setup). replies_for k.set w.front call reply) setup (subst (λ (l : List Update). replies_for u.setup.set l call reply) (sym front) may.may.replies);
   answered = ap (λ (x : View). x.own.answered) is ∙ ap (λ k. u.own.answered ++ (read_at k call reply ∷ [])) position_is ∙ ap (λ (l : List Answered). l ++ (read_at (length w.front) call reply ∷ [])) none.answered;
@@ -79,60 +76,3 @@ read_placed s v u w found position call reply none setup may whole is = record {
 
     position_is : position ≡ length w.front
     position_is = sym (ap length front ∙ length-take-le position u.seen_updates may.may.within)
-
--- the update that a call of the caller's decides, by a caller that had answered none since v
-same_update : (v u : View) (call : Call) → AnswersNone v u → u.own.caller ≡ v.own.caller → own_update u (Some call) ≡ own_update v (Some call)
-same_update v u call none caller = λ k. update_for (caller k) (length (none.answered k) + 1) (Some call)
-
-module _ (s : ShapeFacts) (v u w : View) (o : Origin) (call : Call) (none : AnswersNone v u) (caller : u.own.caller ≡ v.own.caller) where
-  -- what is known once an exchange of a link decided it
-  pub decided_by_exchange : (f : ℕ) (old new : LinkParts) → ExchangedLink s u o f old new (Some call) w → Decided call v w
-  decided_by_exchange f old new made = record {
-    updates = made.updates;
-    behind = subst (StartsWith made.updates) none.front made.whole.front;
-    front = ap (λ (x : View). x.front) made.view ∙ ap (with_update made.updates) (same_update v u call none caller);
-    answered = ap (λ (x : View). x.own.answered) made.view ∙ ap (λ (l : List Answered). l ++ entry_for (length made.updates) (Some call)) none.answered;
-  }
-
-  -- or the linking of an own record
-  pub decided_by_publish : (f : ℕ) (old : LinkParts) (own : RefParts) → PublishedLink s u o f old own (Some call) w → Decided call v w
-  decided_by_publish f old own made = record {
-    updates = made.updates;
-    behind = subst (StartsWith made.updates) none.front made.whole.front;
-    front = ap (λ (x : View). x.front) made.view ∙ ap (with_update made.updates) (same_update v u call none caller);
-    answered = ap (λ (x : View). x.own.answered) made.view ∙ ap (λ (l : List Answered). l ++ entry_for (length made.updates) (Some call)) none.answered;
-  }
-
--- what a call says is so from an earlier view, where its caller had answered none in between
-module _ (v u w : View) (none : AnswersNone v u) (caller : u.own.caller ≡ v.own.caller) (setup : u.setup ≡ v.setup) where
-  decided_then : (call : Call) → Decided call u w → Decided call v w
-  decided_then call d = record {
-    updates = d.updates;
-    behind = subst (StartsWith d.updates) none.front d.behind;
-    front = d.front ∙ ap (with_update d.updates) (same_update v u call none caller);
-    answered = d.answered ∙ ap (λ (l : List Answered). l ++ entry_for (length d.updates) (Some call)) none.answered;
-  }
-
-  read_then : (call : Call) (reply : Bool) → Read call reply u w → Read call reply v w
-  read_then call reply r = record {
-    behind = subst (StartsWith w.front) none.front r.behind;
-    replies = subst (λ (k : Setup). replies_for k.set w.front call reply) setup r.replies;
-    answered = r.answered ∙ ap (λ (l : List Answered). l ++ (read_at (length w.front) call reply ∷ [])) none.answered;
-  }
-
-  none_then : AnswersNone u w → AnswersNone v w
-  none_then n = record { answered = n.answered ∙ none.answered; front = n.front ∙ none.front }
-
-  pub tells_then : (call : Call) (r : Option Bool) → Tells call r u w → Tells call r v w
-  tells_then call (Some true) t = decided_then call t
-  tells_then call (Some false) t = read_then call false t
-  tells_then call None t = none_then t
-
-  pub search_then : (key : ℕ) (r : Option Bool) → SearchTells key r u w → SearchTells key r v w
-  search_then key (Some reply) t = read_then (Search key) reply t
-  search_then key None t = none_then t
-
-  pub insert_then : (key : ℕ) (r : Added) → InsertTells key r u w → InsertTells key r v w
-  insert_then key (Done added) t = tells_then (Insert key) (Some added) t
-  insert_then key (Full found) t = none_then t
-  insert_then key Again t = none_then t

@@ -35,7 +35,8 @@ filled (a ∷ b ∷ c ∷ d ∷ []) key link e = absurd (omega arith)
 filled (a ∷ b ∷ c ∷ d ∷ x ∷ row) key link e = (refl, refl)
 
 -- a, b and d are the one record, before and after its two stores
-pub may_link : (u v w : View) (a b d : RefParts) (key number link : ℕ) (expected : LinkParts) → b ≡ a → d ≡ b → number ≡ key → link ≡ packed_ref None → expected ≡ empty → key < 2 ^ 40 → IsOwnOf u a → v ≡ stored u a.index 4 (packed_number a.generation number) → w ≡ stored v b.index 3 (packed_number b.generation link)
+pub may_link : (u v w : View) (a b d : RefParts) (key number link : ℕ) (expected : LinkParts) → b ≡ a → d ≡ b → number ≡ key → link ≡ packed_ref None → expected ≡ empty → key < 2 ^ 40
+    → IsOwnOf u a → v ≡ stored u a.index 4 (packed_number a.generation number) → w ≡ stored v b.index 3 (packed_number b.generation link)
     → (row : List ℕ) × (next : Option Near) × HasOwn w d row × IsNextOf w expected.target next × MayLink (at_root key) 3 expected (drop 3 row) (Some (Insert number))
 may_link u v w a b d key number link expected same again is leads free fits has first second =
     let key_stored : HasOwn v a (set has.0 4 (packed_number a.generation number)) = subst (λ (x : View). HasOwn x a (set has.0 4 (packed_number a.generation number))) (sym first) (own_after u a has.0 4 (packed_number a.generation number) has.1) in

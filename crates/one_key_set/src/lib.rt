@@ -7,6 +7,8 @@ mod answers;
 mod calls;
 mod looking;
 mod shape;
+#[cfg(test)]
+mod tests;
 
 pub use answers::Added;
 pub use calls::{insert, remove, search};
