@@ -14,11 +14,14 @@ use Rattle.list_facts.proofs.Unlinking.{unlinks}
 use Rattle.list_facts.proofs.Openings.{opening_fits, opening_told}
 use Rattle.list_facts.proofs.Shows.{shows}
 use Rattle.list_facts.proofs.Hiding.{hiding_fits, hiding_told}
+use Rattle.list_facts.proofs.Walking.{list_walks, list_reads}
 
 -- its only flag is the mark
 pub michael_laws : ShapeLaws michael
 michael_laws = record {
   starts = λ setup h some fit none. (opening_fits setup _ (omega arith), opening_told setup h none);
+  walks = λ setup x h given body t on step. list_walks given.1.0 body t on step;
+  reads = λ setup x h given roots. list_reads given.1.0 roots given.1.1;
   keys_stand = λ setup x near f l fits n. refl;
   reaches = λ setup x near f l t fits n hold clear e. reaches fits n hold clear t e;
   exchanges = λ setup x h c number near f old new call given n in_range may. let clear = clean_link n may.0 (clear_flags old 0 refl may.3) in record {

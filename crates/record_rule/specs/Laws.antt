@@ -11,6 +11,7 @@ use Rattle.row_words.specs.Refs.{RefParts, LinkParts, IsRef, refer}
 use Rattle.row_words.specs.Packing.{IsLink, packed_key, packed_number}
 use Rattle.record_rule.specs.Inputs.{ShapeCell, hidden, root, linked, out, ShapeInput, Start, start_of, Trace, SchemeCell, unseen, rooted, reachable, unpublished, unretired, limbo, SchemeInput}
 use Rattle.record_rule.specs.Guards.{started_at}
+use Rattle.record_rule.specs.Walks.{LeadsOn, IsOnWalk, cells_ground, HasRoots, read_for}
 use Rattle.record_rule.specs.Facts.{At, link_at, with_link, mark_bit, HasMark, clean, Near, at_root, at_held, Known, of_held, known_near, ShapeFacts, Stands, FitsNear, FitsNext, IsLegalUpdate, update_for, Moment, Reach, LimboRecord, CoverFacts}
 
 abbrev pub root_body : ℕ → List ℕ
@@ -116,6 +117,10 @@ module _ (s : ShapeFacts) where
   pub record ShapeLaws : Type 0 where
     -- A new table has blank roots, no key and no history
     pub starts : (setup : Setup) (h : Trace) → 0 < setup.roots → setup.roots ≤ setup.records → h.updates ≡ [] → Stands s setup (opening_shape setup) h
+    -- A walk over the records comes to a linked one wherever it goes on
+    pub walks : (setup : Setup) (x : ShapeInput) (h : Trace) → Given setup x h → (body : List ℕ) (t : RefParts) → IsOnWalk (cells_ground s x.cells) body → LeadsOn s.leads body t → LeadsTo x.cells t
+    -- And it reads what the machine of the set's name leaves behind the updates
+    pub reads : (setup : Setup) (x : ShapeInput) (h : Trace) → Given setup x h → HasRoots setup x.cells → read_for s.name (cells_ground s x.cells) h.updates
     -- The key of a record that is linked or was taken out changes no more
     pub keys_stand : (setup : Setup) (x : ShapeInput) (near : Near) (f : ℕ) (l : LinkParts) → s.formed setup x → (n : NodeIs x.cells near f l) → s.settled 4 n.body ≡ true
     -- A link that may be followed, without a mark, leads to a linked record at its generation; so a record that was taken out has a mark there

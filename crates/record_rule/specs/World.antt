@@ -88,13 +88,14 @@ pub record SeatFits (setup : Setup) (books : List Book) (seats : List ℕ) (take
   -- it noted what its callers' guards and notes speak of
   pub recent : (p : ℕ) (b : Book) → At (carries v) p b → IsRecent (length v.seen_updates) (length v.seen_taken_out) b.guard b.notes
 
--- no step changes these: the words of the pool, which the table doesn't have yet, and those that its allocator doesn't use
+-- what no step breaks: nothing changes the words of the pool, which the table doesn't have yet, nor those that its allocator doesn't use, and a caller draws within its range
 pub record AreUntouched (setup : Setup) (lock blank drawn : ℕ) (shelves cursors : List ℕ) : Type 0 where
   pub lock_is : lock ≡ 0
   pub blank_is : blank ≡ 0
   pub shelves_are : shelves ≡ replicate 16 0
   pub cursors_are : setup.allocator ≡ Bump → cursors ≡ replicate setup.callers 0
   pub drawn_is : setup.allocator ≡ Once → drawn ≡ setup.roots
+  pub cursors_within : setup.allocator ≡ Once → (c n : ℕ) → At cursors c n → n ≤ range setup
 
 module _ (setup : Setup) (records : List Record) (books : List Book) where
   -- where each record is
