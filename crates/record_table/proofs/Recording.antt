@@ -1,13 +1,12 @@
 -- What a step tells has it recorded as what it is.
-use Rattle.std.proofs.Common.{◌≡◌, ◌≢◌, ℕ, ◌+◌, ◌-◌, ◌*◌, ◌%◌, ◌^◌, ◌<◌, ◌≤◌, List, [], ◌∷◌, ◌++◌, get_or, Bool, true, false, cond, eqb, Option, Some, refl, sym, ap, ◌∙◌, subst, arith}
+use Rattle.std.proofs.Common.{◌≡◌, ◌≢◌, ℕ, ◌+◌, ◌-◌, ◌*◌, ◌%◌, ◌^◌, List, [], ◌∷◌, ◌++◌, get_or, Bool, true, false, cond, eqb, Option, Some, refl, sym, ap, ◌∙◌, subst, arith}
 use Rattle.std.proofs.lemmas.Bool.{eqb-true, eqb-false}
 use Rattle.set_model.specs.declared.calls.Call.{Call}
 use Rattle.set_model.specs.declared.calls.Update.{Update}
 use Rattle.record_memory.specs.declared.steps.Word.{Word}
 use Rattle.record_memory.specs.declared.steps.Word.TheVariants.{Drawn, Epoch, Lock, Blank, Shelf, Announced, Cursor, Field}
 use Rattle.record_memory.specs.declared.steps.StepKind.{StepKind}
-use Rattle.record_memory.specs.declared.steps.StepKind.TheVariants.{Load, Store, Swap, Add, Exchange}
-use Rattle.record_memory.specs.declared.steps.Step.{Step}
+use Rattle.record_memory.specs.declared.steps.StepKind.TheVariants.{Load, Store, Add, Exchange}
 use Rattle.record_memory.specs.declared.books.Setup.{Setup}
 use Rattle.record_memory.specs.declared.books.View.{View}
 use Rattle.record_memory.specs.declared.books.Book.{Book}
@@ -19,9 +18,8 @@ use Rattle.record_rule.specs.Kinds.{share_in, field_store, field_load, stored_as
 use Rattle.record_rule.specs.TakesFree.{LoadedFree}
 use Rattle.record_rule.specs.Placing.{placed_view}
 use Rattle.record_rule.specs.Asides.{put_aside_as, put_aside, took_spare_as, took_spare}
-use Rattle.record_rule.specs.Links.{Origin, from_root, from_place, index_of, node_step, LoadedKey, LoadedLink, ReachedLink, link_word, ExchangedLink, RefusedLink, ToldExchange, PublishedLink, ToldPublish, UnlinkedRecord, ToldUnlink, retired_with}
-use Rattle.record_rule.specs.ControlSteps.{seeing_if, own_store, StoredWord, StoredControl, MayStoreControl}
-use Rattle.record_table.specs.Handles.{IsSameView}
+use Rattle.record_rule.specs.Links.{Origin, from_place, index_of, node_step, LoadedKey, LoadedLink, ReachedLink, link_word, ExchangedLink, RefusedLink, ToldExchange, PublishedLink, ToldPublish, UnlinkedRecord, ToldUnlink}
+use Rattle.record_rule.specs.ControlSteps.{seeing_if, own_store, StoredControl, MayStoreControl}
 use Rattle.record_table.specs.Recording.{Adds}
 use Rattle.record_table.specs.ToldLinks.{ToldRetire}
 

@@ -1,10 +1,9 @@
-use Rattle.std.proofs.Common.{◌≡◌, ℕ, arith, refl, inr, sym, ◌∙◌, ap, subst}
+use Rattle.std.proofs.Common.{arith, refl, inr, sym, ◌∙◌, ap, subst}
 use Rattle.record_memory.specs.declared.books.Setup.{Setup}
 use Rattle.row_words.specs.Refs.{RefParts, LinkParts}
 use Rattle.row_words.specs.Packing.{IsTarget}
-use Rattle.record_rule.specs.Facts.{clean}
 use Rattle.record_rule.specs.HandingOut.{HasOwn}
-use Rattle.record_rule.specs.Links.{link_word, PublishedLink, ToldPublish}
+use Rattle.record_rule.specs.Links.{link_word, ToldPublish}
 use Rattle.record_rule.proofs.Publishes.{publishes_link}
 use Rattle.record_table.specs.Handles.{rule}
 use Rattle.record_table.specs.Nodes.{origin}

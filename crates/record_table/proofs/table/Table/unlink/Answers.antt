@@ -1,9 +1,8 @@
-use Rattle.std.proofs.Common.{◌≡◌, ℕ, arith, refl, inl, inr, sym, ◌∙◌, ap, subst}
+use Rattle.std.proofs.Common.{arith, refl, inl, inr, sym, ◌∙◌, ap, subst}
 use Rattle.record_memory.specs.declared.books.Setup.{Setup}
-use Rattle.row_words.specs.Refs.{RefParts, LinkParts}
+use Rattle.row_words.specs.Refs.{LinkParts}
 use Rattle.row_words.specs.Packing.{IsTarget}
-use Rattle.record_rule.specs.Facts.{clean}
-use Rattle.record_rule.specs.Links.{link_word, UnlinkedRecord, ToldUnlink}
+use Rattle.record_rule.specs.Links.{link_word, ToldUnlink}
 use Rattle.record_rule.proofs.Unlinks.{unlinks_record}
 use Rattle.record_table.specs.Handles.{rule}
 use Rattle.record_table.specs.Nodes.{origin}
