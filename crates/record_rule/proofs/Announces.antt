@@ -215,7 +215,7 @@ module _ (shape : ShapeFacts) (cover : CoverFacts) (shaped : ShapeLaws shape) (c
   recent' : (n k : ℕ) → g'.start_updates ≤ n → g'.start_taken_out ≤ k → IsRecent n k g v.own.notes → IsRecent n k g' v.own.notes
   recent' n k updates taken_out h = record {
     updates_since = updates;
-    removals_since = taken_out;
+    taken_since = taken_out;
     reached = h.reached;
     behind = λ p r note hold there. let x = has.holds p r hold in subst (λ (z : Start). z.updates ≤ note.reached_at) (sym x.1) (h.behind p r note x.0 there);
     waits = λ p r note e there. none_waits g'.pending p r has.waits e;
@@ -250,7 +250,7 @@ module _ (shape : ShapeFacts) (cover : CoverFacts) (shaped : ShapeLaws shape) (c
         seen_taken_out = f.seen_taken_out;
         longer = omega arith;
         more_noted = (omega arith, omega arith);
-        recent = λ h. recent' (length v.seen_updates) (length v.seen_taken_out) (let e = now.updates in let a = h.updates_since in omega arith) (let e = now.taken_out in let a = h.removals_since in omega arith) h;
+        recent = λ h. recent' (length v.seen_updates) (length v.seen_taken_out) (let e = now.updates in let a = h.updates_since in omega arith) (let e = now.taken_out in let a = h.taken_since in omega arith) h;
         behind = own_behind shape cover setup s u id v at present;
         made = made';
         start_made = started';

@@ -22,7 +22,7 @@ use Rattle.record_rule.specs.ClosedTables.{AreAllAnswered, IsWhole, ClosedFits}
 use Rattle.record_rule.specs.PlaceCounts.{CountsAddUp}
 use Rattle.record_rule.specs.Counts.{CountsFit}
 use Rattle.record_rule.proofs.CountingPlaces.{counts_add_up}
-use Rattle.record_rule.proofs.CountingTakings.{removals_counted}
+use Rattle.record_rule.proofs.CountingTakings.{taken_out_counted}
 use Rattle.record_rule.proofs.Lists.{at_below, get_at, map_at}
 use Rattle.record_rule.proofs.Steps.{given}
 use Rattle.record_rule.proofs.Walking.{has_roots, rows_read}
@@ -120,7 +120,7 @@ module _ (s : ShapeFacts) (c : CoverFacts) (setup : Setup) (t : State (Unit {0})
     found = λ d b e n step. u.made d b (carried d b e) n step;
     records = u.records;
     placed = subst (λ books. Places setup u.records books (memory setup.callers setup.records t.words)) (sym all_books) u.places;
-    counted = subst (λ rows. CountsAddUp setup rows u.records u.taken_out) u.places.rows (counts_add_up setup numbers u.records u.places.many u.places.sound u.taken_out (removals_counted setup u.records u.taken_out u.places.sound u.parts.taken));
+    counted = subst (λ rows. CountsAddUp setup rows u.records u.taken_out) u.places.rows (counts_add_up setup numbers u.records u.places.many u.places.sound u.taken_out (taken_out_counted setup u.records u.taken_out u.places.sound u.parts.taken));
     taken_out = u.taken_out;
     taken = u.parts.taken;
     moved = subst (CountsFit setup.first u.records) (sym all_books) u.counts;

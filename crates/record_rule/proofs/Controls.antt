@@ -303,7 +303,7 @@ module _ (shape : ShapeFacts) (cover : CoverFacts) (shaped : ShapeLaws shape) (c
   recent2 : (a b : ℕ) → IsRecent a b v.own.guard v.own.notes → IsRecent a b g2 v.own.notes
   recent2 a b h = record {
     updates_since = let x = h.updates_since in let e = ap (λ (z : Start). z.updates) same_start in omega arith;
-    removals_since = let x = h.removals_since in let e = start_same in omega arith;
+    taken_since = let x = h.taken_since in let e = start_same in omega arith;
     reached = h.reached;
     behind = λ p r note hold there. subst (λ (z : Start). z.updates ≤ note.reached_at) (sym same_start)
         (⊎_elim (λ y. h.behind p r note y there) (λ y. h.waits p r note y.0 there) (has1.holds p r (subst (λ (l : List (Option RefParts)). At l p (Some r)) same_holds.holds hold)));

@@ -220,7 +220,7 @@ module _ (setup : Setup) (ok : IsSetup setup) (first : Guard) where
     first_recent : IsRecent 0 0 first blank
     first_recent = record {
       updates_since = let e = ap (λ (z : Guard). z.start_updates) is_first in let k = covering.unstarted.1 in omega arith;
-      removals_since = let e = not_started in omega arith;
+      taken_since = let e = not_started in omega arith;
       reached = λ p note e. let z = not_reached first.holds p note e in omega arith;
       behind = λ p r note e n. absurd (no_hold p r e);
       waits = λ p r note e n. none_waits first.pending p r (ap (λ (z : Guard). z.pending) (sym is_first) ∙ covering.calm) e;

@@ -11,6 +11,7 @@ pub mod Held
 pub mod Known
 pub mod Histories
 pub mod Recorded
+pub mod Standings
 pub mod Counts
 pub mod World
 pub mod Opening

@@ -70,7 +70,7 @@ carries v = carried_if v.present v
 -- A pass that noted so many updates and so many records taken out noted all up to the start of its caller's guard, and all updates up to where each record was reached that its caller has a note of. What its caller holds or waits for was reached behind that start
 pub record IsRecent (updates taken_out : ℕ) (g : Guard) (notes : List Note) : Type 0 where
   pub updates_since : g.start_updates ≤ updates
-  pub removals_since : g.start_taken_out ≤ taken_out
+  pub taken_since : g.start_taken_out ≤ taken_out
   pub reached : (p : ℕ) (note : Note) → At notes p note → note.reached_at ≤ updates
   pub behind : (p : ℕ) (r : RefParts) (note : Note) → At g.holds p (Some r) → At notes p note → g.start_updates ≤ note.reached_at
   pub waits : (p : ℕ) (r : RefParts) (note : Note) → g.pending ≡ Some (p, r) → At notes p note → g.start_updates ≤ note.reached_at
