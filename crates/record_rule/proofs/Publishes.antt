@@ -145,7 +145,7 @@ module _ (shape : ShapeFacts) (cover : CoverFacts) (setup : Setup) (is_setup : I
           let is_new : IsLink new = record { flags = omega arith; target = is_ref } in let t : Step = node_step v Exchange o f (link_word v.setup o old) (link_word v.setup o new) in
           let mine : List (Option Share) = set v.own.mine k None in let w : View = view_after shape cover setup is_setup s u id v at present o n word f is low high same holds new is_new call dec t mine records u.taken_out in
           let node = node_with shape cover setup is_setup s u id v at present o n f old low old_is in
-          let kept = shaped.publishes setup (shape_input was) (trace was) c (length v.own.answered + 1) (near_of v o) f old own (drop 3 row) 0 next call
+          let kept = shaped.publishes setup (shape_input was) (trace was) record { caller = c; number = length v.own.answered + 1; near = near_of v o; field = f; old = old; call = call } own (drop 3 row) 0 next
           (given shape cover setup s u) node (fits_next old.target next is_next) was_hidden is_ref x.five
           own_new may in (
             w,

@@ -43,11 +43,11 @@ least_shape_laws = record {
   );
   keys_stand = λ setup x near f l formed n. refl;
   reaches = λ setup x near f l t formed n may plain to. absurd may;
-  exchanges = λ setup x h c number near f old new call given n link may. absurd may;
-  publishes = λ setup x h c number near f old own body marked next call given n fits is own_ref long name may. absurd may;
-  gone_linked = λ setup x near f old gone note new next call formed n to may. absurd may;
+  exchanges = λ setup x h t new given n link may. absurd may;
+  publishes = λ setup x h t own body marked next given n fits is own_ref long name may. absurd may;
+  gone_linked = λ setup x t gone note new next formed n to may. absurd may;
   follows = λ setup x h near f l start c kept t given n at behind known may to. absurd may;
-  unlinks = λ setup x h c number near f old gone note new next call i generation m body given n to fits behind link may. absurd may;
+  unlinks = λ setup x h t gone note new next i generation m body given n to fits behind link may. absurd may;
   hides = λ setup x h cells given hidden. record { stands = (tt, given.1.1); known = λ start k e. tt };
   shows = λ setup x h near f l start c target given n at seen behind. tt;
   nothing = λ setup x updates start r. tt;
