@@ -38,7 +38,8 @@ use Rattle.record_rule.proofs.Outlines.{each_known}
 use Rattle.record_rule.proofs.Waiting.{none_waits}
 
 -- where the records are doesn't depend on an announcement
-announced_places : (setup : Setup) (records : List Record) (books : List Book) (m : Memory) (j value c : ℕ) (b own : Book) → At books c b → own.caller ≡ b.caller → own.mine ≡ b.mine → overshoot own ≡ overshoot b → Places setup records books m → Places setup records (set books c own) (put m (Announced j) value)
+announced_places : (setup : Setup) (records : List Record) (books : List Book) (m : Memory) (j value c : ℕ) (b own : Book) → At books c b → own.caller ≡ b.caller → own.mine ≡ b.mine → overshoot own ≡ overshoot b → Places setup records books m
+    → Places setup records (set books c own) (put m (Announced j) value)
 announced_places setup records books m j value c b own at caller mine weight p = let f = p.books_fit c b at in let m' : Memory = put m (Announced j) value in record {
   many = p.many;
   rows = p.rows;
@@ -60,7 +61,8 @@ other_words c d k value l low ne = by (dec_lt d c)
     by (yes h) = stretch_behind (4 * d) 4 (4 * c + k) value l (omega arith)
     by (no h) = stretch_before (4 * d) 4 (4 * c + k) value l (omega arith)
 
-module _ (shape : ShapeFacts) (cover : CoverFacts) (shaped : ShapeLaws shape) (covering : CoverLaws cover) (setup : Setup) (s : State (Unit {0}) View) (u : Rule shape cover setup s) (id : ℕ) (v : View) (at : get_elem? s.views id ≡ some v) (present : v.present ≡ true) (same : v.setup ≡ setup) (k value : ℕ) (low : k < 4)
+module _ (shape : ShapeFacts) (cover : CoverFacts) (shaped : ShapeLaws shape) (covering : CoverLaws cover) (setup : Setup) (s : State (Unit {0}) View) (u : Rule shape cover setup s) (id : ℕ) (v : View) (at : get_elem? s.views id ≡ some v) (present : v.present ≡ true)
+    (same : v.setup ≡ setup) (k value : ℕ) (low : k < 4)
     (may : cover.may_store setup v.own.guard k value) where
   abbrev m : Memory
   m = memory setup.callers setup.records s.words
