@@ -14,3 +14,5 @@ pub mod Dids
 pub mod Seats
 mod Owns
 mod StepKeeps
+pub mod MoveCounts
+pub mod ChainCounts

@@ -6,7 +6,7 @@ ghost use Rattle.record_table.specs.Closing.{closed_setup, closed_books, own_boo
 ghost use Rattle.manager.specs.Callers.{IsResting};
 ghost use Rattle.manager.specs.Made.{passes_of};
 
-use crate::types::{Caller, Manager};
+use crate::types::{Caller, Manager, Moved};
 use alloc_api::Allocator;
 use pool::Pool;
 use reclaim_api::Scheme;
@@ -28,6 +28,13 @@ fn seat<S: Shape, R: Scheme>(table: &Table<S, R>, pass: Pass<S, R>) -> Caller<S,
         local,
         free: Chain::new(),
         spare: Chain::new(),
+        moved: Moved {
+            drawn: 0,
+            reused: 0,
+            retired: 0,
+            freed: 0,
+            spent: 0,
+        },
     }
 }
 
