@@ -16,3 +16,4 @@ mod Owns
 mod StepKeeps
 pub mod MoveCounts
 pub mod ChainCounts
+pub mod Sums
