@@ -17,3 +17,4 @@ mod StepKeeps
 pub mod MoveCounts
 pub mod ChainCounts
 pub mod Sums
+pub mod CallerSums
