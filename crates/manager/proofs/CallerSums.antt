@@ -14,7 +14,8 @@ use Rattle.record_memory.specs.Memory.{Memory}
 use Rattle.record_rule.specs.Facts.{At}
 use Rattle.record_rule.specs.Records.{Record, share_at, share, known}
 use Rattle.record_rule.specs.World.{Places}
-use Rattle.record_rule.specs.PlaceCounts.{is_had, count_in}
+use Rattle.record_rule.specs.Standings.{is_had}
+use Rattle.record_rule.specs.PlaceCounts.{count_in}
 use Rattle.record_rule.proofs.CountingPlaces.{bit, count_cons, in_cons}
 use Rattle.reclaim_api.specs.Frames.{is_as, had}
 

@@ -8,7 +8,8 @@ use Rattle.record_memory.specs.declared.books.Standing.{Standing}
 use Rattle.record_memory.specs.declared.books.Standing.TheVariants.{Handing, Own, Spare, TakenOut, Limbo, Free, Spent}
 use Rattle.record_rule.specs.Records.{Record}
 use Rattle.record_rule.specs.Counts.{retired_had, freed_had, retired_as, freed_as, lives_before, times_retired, times_freed, CountsFit}
-use Rattle.record_rule.specs.PlaceCounts.{is_shelved, is_had, is_limbo, is_free, is_spent, count_in}
+use Rattle.record_rule.specs.Standings.{is_shelved, is_had, is_limbo, is_free, is_spent}
+use Rattle.record_rule.specs.PlaceCounts.{count_in}
 use Rattle.record_rule.proofs.CountingPlaces.{bit, in_cons}
 use Rattle.record_memory.specs.declared.books.Setup.{Setup}
 use Rattle.record_memory.specs.Memory.{Memory}

@@ -5,7 +5,8 @@ use Rattle.record_memory.specs.Memory.{memory}
 use Rattle.record_rule.specs.Records.{Record}
 use Rattle.record_rule.specs.World.{Places}
 use Rattle.record_rule.specs.Counts.{reused_by, retired_by, freed_by}
-use Rattle.record_rule.specs.PlaceCounts.{is_shelved, is_limbo, is_free, is_spent, count_in}
+use Rattle.record_rule.specs.Standings.{is_shelved, is_limbo, is_free, is_spent}
+use Rattle.record_rule.specs.PlaceCounts.{count_in}
 use Rattle.reclaim_api.specs.Frames.{had}
 use Rattle.record_table.specs.declared.closing.Closed.{Closed}
 use Rattle.record_table.specs.Closing.{closed_setup, closed_words, closed_books}
