@@ -11,7 +11,7 @@ use Rattle.row_words.specs.Refs.{RefParts, IsRef}
 use Rattle.row_words.specs.declared.links.Chain.{Chain}
 use Rattle.limbo_bags.proofs.Counts.{AllPairs-head, AllPairs-tail}
 use Rattle.record_rule.specs.Kinds.{is_idle_as, is_idle, idle}
-use Rattle.record_rule.specs.PlaceCounts.{is_free, is_spare}
+use Rattle.record_rule.specs.Standings.{is_free, is_spare}
 use Rattle.record_rule.proofs.Lists.{counts_less}
 use Rattle.record_rule.proofs.CountingPlaces.{bit, count_cons}
 use Rattle.reclaim_api.specs.Chained.{IsChainOf, refs_in}

@@ -85,7 +85,8 @@ module _ (v : View) (r : RefParts) (birth : ℕ) (d : HasDrawn v r) where
   -- what is in limbo stays at each
   limbo : (n : ℕ) → n < 9 → AwayStays v (at n)
   limbo zero lt j = refl
-  limbo (suc n) lt j = limbo_stays (at n) (at (suc n)) r.index (share n) (share (suc n)) (share_known v r.index row d.share d.known n) (ap (λ (x : View). x.own.mine) (more n)) (no_limbo (share n) (share n).standing (busy n (omega arith))) (no_limbo (share (suc n)) (share (suc n)).standing (busy (suc n) (omega arith))) j
+  limbo (suc n) lt j = limbo_stays (at n) (at (suc n)) r.index (share n) (share (suc n)) (share_known v r.index row d.share d.known n)
+      (ap (λ (x : View). x.own.mine) (more n)) (no_limbo (share n) (share n).standing (busy n (omega arith))) (no_limbo (share (suc n)) (share (suc n)).standing (busy (suc n) (omega arith))) j
       ∙ limbo n (omega arith) j
 
   -- no record is moved but so

@@ -9,7 +9,7 @@ use Rattle.record_memory.specs.declared.books.View.{View}
 use Rattle.row_words.specs.declared.links.Chain.{Chain}
 use Rattle.row_words.specs.declared.links.Freed.{Freed}
 use Rattle.record_rule.specs.Kinds.{moves_stored}
-use Rattle.record_rule.specs.PlaceCounts.{is_limbo, is_spent}
+use Rattle.record_rule.specs.Standings.{is_limbo, is_spent}
 use Rattle.record_rule.proofs.CountingPlaces.{bit, count_cons}
 use Rattle.reclaim_api.specs.Frames.{away_as, in_away, is_as, had, IsLimboLeft, FreesInto}
 use Rattle.manager.specs.declared.types.Moved.{Moved}

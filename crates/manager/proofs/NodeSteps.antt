@@ -108,7 +108,8 @@ module _ (c : CoverFacts) (v w : View) where
 
     -- one that takes a record out
     pub unlink_leaves : (gone : RefParts) (new : LinkParts) → 0 < v.setup.records → (r : Result RefParts Found) → MatchResult r (λ taken. (taken ≡ gone) × UnlinkedRecord s v o 3 gone new w) (λ found. IsRefused v o (clean gone) found.link w) → LeavesAll c v w
-    unlink_leaves gone new some (Ok taken) e = let u = e.1 in leaves_others _ gone.index None _ u.none (ap (λ (x : View). x.own.mine) u.view) (let a = u.within in let b = u.mine in omega arith) tt tt (ap (λ (x : View). x.own.moves) u.view) (ap (λ (x : View). x.own.guard) u.view) (ap (λ (x : View). x.own.steps) u.view)
+    unlink_leaves gone new some (Ok taken) e = let u = e.1 in
+        leaves_others _ gone.index None _ u.none (ap (λ (x : View). x.own.mine) u.view) (let a = u.within in let b = u.mine in omega arith) tt tt (ap (λ (x : View). x.own.moves) u.view) (ap (λ (x : View). x.own.guard) u.view) (ap (λ (x : View). x.own.steps) u.view)
     unlink_leaves gone new some (Err found) e = refused_leaves (clean gone) found.link e
 
   -- a store in an own record

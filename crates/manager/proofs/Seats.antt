@@ -19,7 +19,7 @@ use Rattle.record_table.specs.Made.{IsFresh, AreFreshFrom}
 use Rattle.record_table.proofs.Closings.{tail_fresh}
 use Rattle.manager.specs.declared.types.Caller.{Caller}
 use Rattle.record_memory.specs.declared.books.Standing.{Standing}
-use Rattle.record_rule.specs.PlaceCounts.{is_limbo, is_spent}
+use Rattle.record_rule.specs.Standings.{is_limbo, is_spent}
 use Rattle.reclaim_api.specs.Frames.{is_as, had}
 use Rattle.manager.specs.Counted.{shown, AreCounted}
 use Rattle.manager.specs.Made.{passes_of}

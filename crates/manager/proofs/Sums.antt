@@ -8,9 +8,14 @@ use Rattle.record_memory.specs.declared.books.Standing.{Standing}
 use Rattle.record_memory.specs.declared.books.Standing.TheVariants.{Handing, Own, Spare, TakenOut, Limbo, Free, Spent}
 use Rattle.record_rule.specs.Records.{Record}
 use Rattle.record_rule.specs.Counts.{retired_had, freed_had, retired_as, freed_as, lives_before, times_retired, times_freed, CountsFit}
-use Rattle.record_rule.specs.PlaceCounts.{is_shelved, is_had, is_limbo, is_free, is_spent, count_in}
+use Rattle.record_rule.specs.Standings.{is_shelved, is_had, is_limbo, is_free, is_spent}
+use Rattle.record_rule.specs.PlaceCounts.{count_in}
 use Rattle.record_rule.proofs.CountingPlaces.{bit, in_cons}
+use Rattle.record_memory.specs.declared.books.Setup.{Setup}
+use Rattle.record_memory.specs.Memory.{Memory}
+use Rattle.record_rule.specs.World.{Places}
 use Rattle.manager.specs.Made.{MovesAddUp}
+use Rattle.manager.proofs.CallerSums.{callers_had}
 
 -- a record that was freed and not handed out anew is free or spent
 freed_is : (s : Standing) → freed_had s ≡ bit (is_free s) + bit (is_spent s)
@@ -56,8 +61,9 @@ limbo_sum : (first : ℕ) (rs : List Record) → count_in (is_had is_limbo) rs +
 limbo_sum first [] = refl
 limbo_sum first (r ∷ rs) = let h = limbo_sum first rs in let a = sum_by-cons (times_freed first) r rs in let b = sum_by-cons (times_retired first) r rs in let c = in_cons (is_had is_limbo) r rs in let d = retired_at r.place in omega arith
 
-pub moves_add_up : (first : ℕ) (records : List Record) (books : List Book) → CountsFit first records books → MovesAddUp records books
-moves_add_up first records books h = record {
-  freed = let a = h.freed in let b = h.reused in let c = freed_sum first records in omega arith;
-  limbo = let a = h.freed in let b = h.retired in let c = limbo_sum first records in omega arith;
+-- by what the callers have
+pub moves_add_up : (setup : Setup) (records : List Record) (books : List Book) (m : Memory) → Places setup records books m → CountsFit setup.first records books → MovesAddUp records books
+moves_add_up setup records books m p h = record {
+  freed = let a = h.freed in let b = h.reused in let c = freed_sum setup.first records in let d = callers_had is_free setup records books m p in let e = callers_had is_spent setup records books m p in omega arith;
+  limbo = let a = h.freed in let b = h.retired in let c = limbo_sum setup.first records in let d = callers_had is_limbo setup records books m p in omega arith;
 }

@@ -2,7 +2,7 @@
 use Rattle.std.specs.Prelude.{◌≡◌, ℕ, ◌-◌, ◌<◌, ◌^◌, nat_lt, if◌then◌else◌}
 use Rattle.set_model.specs.declared.calls.Counts.{Counts}
 use Rattle.record_memory.specs.declared.books.Book.{Book}
-use Rattle.record_rule.specs.PlaceCounts.{is_limbo, is_free, is_spare, is_spent}
+use Rattle.record_rule.specs.Standings.{is_limbo, is_free, is_spare, is_spent}
 use Rattle.reclaim_api.specs.Frames.{had, IsLimboLeft}
 use Rattle.manager.specs.declared.types.Moved.{Moved}
 

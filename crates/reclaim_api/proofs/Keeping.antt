@@ -115,7 +115,8 @@ module _ {S R : Type 0} where
           notes = ap (λ (v : View). v.own.notes) told.view
 
           guard : HasStarted p → (view q).own.guard ≡ (view p).own.guard
-          guard h = ap (λ (v : View). v.own.guard) told.view ∙ ap (λ (b : Bool). started_if b (record { epoch = told.epoch; taken_out = length (view q).seen_taken_out; updates = length (view q).seen_updates }) (view p).own.guard (length (view p).own.steps + 1)) (never c.begins_loading (is_first p) (later_load p h))
+          guard h = ap (λ (v : View). v.own.guard) told.view
+              ∙ ap (λ (b : Bool). started_if b (record { epoch = told.epoch; taken_out = length (view q).seen_taken_out; updates = length (view q).seen_updates }) (view p).own.guard (length (view p).own.steps + 1)) (never c.begins_loading (is_first p) (later_load p h))
             where
               never : (a b : Bool) → b ≡ false → (a && b) ≡ false
               never true b e = e

@@ -15,7 +15,7 @@ use Rattle.limbo_bags.proofs.Chains.{chain_kept}
 use Rattle.record_rule.specs.Facts.{CoverFacts}
 use Rattle.record_rule.specs.Guards.{started_if}
 use Rattle.record_rule.specs.Kinds.{share_in, is_idle_as, is_idle, idle}
-use Rattle.record_rule.specs.PlaceCounts.{is_limbo, is_spent}
+use Rattle.record_rule.specs.Standings.{is_limbo, is_spent}
 use Rattle.record_rule.proofs.Lists.{counts_same, counts_more}
 use Rattle.record_rule.specs.Links.{HasTaken, retired_with, retired_share}
 use Rattle.record_rule.proofs.HandingOut.{known_within}

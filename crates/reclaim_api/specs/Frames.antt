@@ -12,7 +12,7 @@ use Rattle.row_words.specs.declared.links.Freed.{Freed}
 use Rattle.record_rule.specs.Facts.{Moment, CoverFacts}
 use Rattle.record_rule.specs.Guards.{started_if}
 use Rattle.record_rule.specs.Kinds.{retired_one, share_in, idle}
-use Rattle.record_rule.specs.PlaceCounts.{is_limbo, is_spent}
+use Rattle.record_rule.specs.Standings.{is_limbo, is_spent}
 
 -- what is known of a record that was retired and can't be handed out: in limbo, or spent; of others nothing
 abbrev pub away_as : Share → Standing → Option Share

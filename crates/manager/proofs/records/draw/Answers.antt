@@ -16,7 +16,8 @@ pub returns-clause-made : goal.returns-clause-made
 returns-clause-made g c = draws_makes (view c.args.caller.now.pass) (view c.draw.new.pass) c.draw.result c.draw.ensures.rest
 
 pub returns-in_err-r-clause-caller : goal.returns-in_err-r-clause-caller
-returns-in_err-r-clause-caller g c = let a = c.args.caller.now in let q = c.draw.new.pass in let e = c.draw.ensures in let h = c.requires.caller in let v : View = view a.pass in let w : View = view q in let m = draws_makes v w c.draw.result e.rest in let records = ap (λ (k : Setup). k.records) e.pass.setup in
+returns-in_err-r-clause-caller g c = let a = c.args.caller.now in let q = c.draw.new.pass in let e = c.draw.ensures in let h = c.requires.caller in let v : View = view a.pass in let w : View = view q in
+    let m = draws_makes v w c.draw.result e.rest in let records = ap (λ (k : Setup). k.records) e.pass.setup in
     let away = draws_limbo v w c.draw.result e.new e.rest in record {
       inside = inside_after a.pass q e.pass m.0 m.1 h.inside;
       chains = chains_after a.pass q e.pass m.0 m.1 _ a.local a.free a.spare a.free a.spare g.met.R.Scheme.local_stays h.chains away
@@ -27,7 +28,8 @@ returns-in_err-r-clause-caller g c = let a = c.args.caller.now in let q = c.draw
     }
 
 pub returns-clause-caller : goal.returns-clause-caller
-returns-clause-caller g c = let a = c.args.caller.now in let q = c.draw.new.pass in let e = c.draw.ensures in let h = c.requires.caller in let v : View = view a.pass in let w : View = view q in let m = draws_makes v w c.draw.result e.rest in let records = ap (λ (k : Setup). k.records) e.pass.setup in
+returns-clause-caller g c = let a = c.args.caller.now in let q = c.draw.new.pass in let e = c.draw.ensures in let h = c.requires.caller in let v : View = view a.pass in let w : View = view q in
+    let m = draws_makes v w c.draw.result e.rest in let records = ap (λ (k : Setup). k.records) e.pass.setup in
     let away = draws_limbo v w c.draw.result e.new e.rest in let n = h.counts in let moves = c.in_ok-r.ensures.rest.moves in record {
       inside = inside_after a.pass q e.pass m.0 m.1 h.inside;
       chains = chains_after a.pass q e.pass m.0 m.1 _ a.local a.free a.spare a.free a.spare g.met.R.Scheme.local_stays h.chains away

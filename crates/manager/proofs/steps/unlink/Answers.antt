@@ -8,7 +8,8 @@ use Rattle.manager.proofs.steps.unlink.Goals as goal
 
 -- what it leaves
 leaves : (g : _) (c : goal.After-unlink g) → LeavesAll g.R.Cover.facts (view c.args.caller.now.pass) (view c.unlink.new.pass)
-leaves g c = unlink_leaves g.R.Cover.facts (view c.args.caller.now.pass) (view c.unlink.new.pass) g.S.Shape.facts (origin c.args.node) c.args.gone.target c.args.new (let k = c.args.table.now.numbers in let e = ap (λ (x : Setup). x.records) c.requires.of.setup in let a = k.roots in let b = k.rooted in omega arith) c.unlink.result c.unlink.ensures.step
+leaves g c =
+    unlink_leaves g.R.Cover.facts (view c.args.caller.now.pass) (view c.unlink.new.pass) g.S.Shape.facts (origin c.args.node) c.args.gone.target c.args.new (let k = c.args.table.now.numbers in let e = ap (λ (x : Setup). x.records) c.requires.of.setup in let a = k.roots in let b = k.rooted in omega arith) c.unlink.result c.unlink.ensures.step
 
 pub returns-clause-caller : goal.returns-clause-caller
 returns-clause-caller g c = let a = c.args.caller.now in let q = c.unlink.new.pass in let same = c.unlink.ensures.pass in let l = leaves g c in record {

@@ -38,4 +38,4 @@ close_last-requires-clause-all g c = last_all c.args.self.table _ (passes_of c.a
     (let e = c.in_default-pop.ensures.cases.0 in let l = c.loop-caller.callers.ok.0 in let m = length-map c.loop-caller.callers.items pass_of in omega arith) c.loop-caller.invariant.all c.requires.order
 
 pub returns-clause-moves : goal.returns-clause-moves
-returns-clause-moves g c = let f = c.close_last.ensures.fits in record { records = f.records; placed = f.placed; sums = moves_add_up _ f.records _ f.moved }
+returns-clause-moves g c = let f = c.close_last.ensures.fits in record { records = f.records; placed = f.placed; sums = moves_add_up _ f.records _ _ f.placed f.moved }

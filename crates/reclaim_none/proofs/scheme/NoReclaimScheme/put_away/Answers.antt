@@ -4,7 +4,7 @@ use Rattle.record_memory.specs.declared.books.View.{View}
 use Rattle.record_memory.specs.declared.books.Standing.TheVariants.{Free, TakenOut}
 use Rattle.row_words.specs.Packing.{packed_number}
 use Rattle.record_rule.specs.Kinds.{idle}
-use Rattle.record_rule.specs.PlaceCounts.{is_spent}
+use Rattle.record_rule.specs.Standings.{is_spent}
 use Rattle.record_table.specs.Handles.{view}
 use Rattle.reclaim_api.specs.Frames.{had, IsLimboLeft, LeavesRestBut}
 use Rattle.reclaim_api.proofs.Kept.{Stays, chain_stays, retired_keeps, retired_leaves, retired_idle, retired_limbo, retired_spent}
