@@ -15,7 +15,7 @@ use Rattle.list_facts.proofs.Spots.{Alike}
 use Rattle.list_facts.proofs.Cells.{no_spot, rank_linked}
 
 -- the key of a note is the body's
-noted_key : (s : ShapeFacts) (note : Note) (body : List ℕ) → FitsNote s note body → (n : ℕ) × At note.words 1 (Some n) → key_noted note ≡ key_at body
+pub noted_key : (s : ShapeFacts) (note : Note) (body : List ℕ) → FitsNote s note body → (n : ℕ) × At note.words 1 (Some n) → key_noted note ≡ key_at body
 noted_key s note body known (n, at) = ap key_in_note (get_at note.words 1 (Some n) None at) ∙ ap key_in (sym (known 1 n at).0)
 
 -- a held record is the one that its reference names
@@ -116,11 +116,17 @@ module _ {flags : ℕ → Type 0} {setup : Setup} {x : ShapeInput} (fits : ListF
   pub cell_fits : {near : Near} {i generation m : ℕ} {body : List ℕ} → FitsNear s x.cells near i generation body m → ¬ HasMark (link_at body 3) → At x.cells i (cell_near near generation body m)
   cell_fits (is_root i generation m body at) clear = at
   cell_fits (is_linked i generation m body note at known) clear = at
-  cell_fits (is_out i generation m n body note at known) clear = absurd (clear (fits.sorted i (out generation body m n) at))
+  cell_fits (is_out i generation m n body note at known) clear = absurd (clear (fits.sorted i (out generation body m n) at).1)
 
   -- and stands in a list
   pub spot_fits : {near : Near} {i generation m : ℕ} {body : List ℕ} → FitsNear s x.cells near i generation body m → ¬ HasMark (link_at body 3) → IsSpot setup x.cells i (spot_near s setup near generation body)
   spot_fits {near = near} {generation = generation} {m = m} {body = body} known clear = (cell_near near generation body m, cell_fits known clear, near_spot setup known body m)
+
+  -- no link has other flags
+  pub flags_fit : {near : Near} {i generation m : ℕ} {body : List ℕ} → FitsNear s x.cells near i generation body m → flags (link_at body 3).flags
+  flags_fit (is_root i generation m body at) = (fits.sorted i (root generation body m) at).0
+  flags_fit (is_linked i generation m body note at known) = (fits.sorted i (linked generation body m) at).0
+  flags_fit (is_out i generation m n body note at known) = (fits.sorted i (out generation body m n) at).0
 
   -- a node whose link has no mark, and what it is where this link was left
   module _ {near : Near} {f : ℕ} {l : LinkParts} (n : NodeIs s x.cells near f l) (field : f ≡ 3) (clear : ¬ HasMark l) where

@@ -147,7 +147,7 @@ module _ {flags : ℕ → Type 0} {setup : Setup} {x : ShapeInput} {h : Trace} (
       one = order.one;
       gap = order.gap;
       later = later fit;
-      sorted = each_set (λ _ c. IsSorted flags c) with_gone n.index node_after (each_set (λ _ c. IsSorted flags c) x.cells i gone_cell fits.sorted gone_mark)
+      sorted = each_set (λ _ c. IsSorted flags c) with_gone n.index node_after (each_set (λ _ c. IsSorted flags c) x.cells i gone_cell fits.sorted ((fits.sorted i (linked generation body k) gone_linked).0, gone_mark))
           (cell_sorted fits n may.0 old_clear new m in_range (subst flags (sym may.2) flagged) (λ root. new_clear));
     }
 

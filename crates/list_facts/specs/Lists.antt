@@ -29,12 +29,12 @@ LeadsUp setup cells a t = (b : Spot) × (0 < t.index) × IsSpot setup cells (t.i
 
 -- `flags` says which flags a link of a root or of a linked record may have
 module _ (flags : ℕ → Type 0) where
-  -- a root has no mark, a linked record has a key of kind 0, and a record that was taken out has a mark
+  -- a root has no mark, a linked record has a key of kind 0, and a record that was taken out has a mark; no link has other flags
   abbrev pub IsSorted : ShapeCell → Type 0
   IsSorted hidden = Unit {0}
   IsSorted (root generation body m) = flags (link_at body 3).flags × ¬ HasMark (link_at body 3)
   IsSorted (linked generation body m) = flags (link_at body 3).flags × (kind_in (word_in body 4) ≡ 0)
-  IsSorted (out generation body m n) = HasMark (link_at body 3)
+  IsSorted (out generation body m n) = flags (link_at body 3).flags × HasMark (link_at body 3)
 
   pub record ListFits (setup : Setup) (x : ShapeInput) : Type 0 where
     -- each link leads up

@@ -20,5 +20,5 @@ michael = record {
   may_unlink = λ setup near f old gone new next call. (old.flags ≡ 0) × MayUnlink setup near f gone new × (call ≡ None);
   lockable = λ f. ⊥;
   may_hold_frozen = λ setup near kept f. f ≡ 3;
-  shown = ListShown;
+  shown = ListShown (λ n. n < 2);
 }

@@ -55,9 +55,12 @@ abbrev pub IsTargetSeen : Option RefParts → Option (List ℕ) → Type 0
 IsTargetSeen None b = b ≡ None
 IsTargetSeen (Some t) b = (body : List ℕ) × (b ≡ Some body)
 
--- what a load of a link without a mark shows of the set at that step
-pub record ListShown (setup : Setup) (y : Sight) (updates : List Update) : Type 0 where
+-- what a load of a link shows of the set at that step; `flags` says which flags a link may have
+pub record ListShown (flags : ℕ → Type 0) (setup : Setup) (y : Sight) (updates : List Update) : Type 0 where
+  pub flagged : flags (link_at y.body 3).flags
   -- no key is present between the node and the link's target
   pub between : ¬ HasMark (link_at y.body 3) → y.field ≡ 3 → IsTargetSeen (link_at y.body 3).target y.target → NoneWithin setup (home_at setup y.node y.body) (rank_at y.node y.body) (rank_of y.target) updates
+  -- what the link leads to stands in the same list, behind the node
+  pub up : ¬ HasMark (link_at y.body 3) → y.field ≡ 3 → (b : List ℕ) → y.target ≡ Some b → (key_at b % setup.roots ≡ home_at setup y.node y.body) × (rank_at y.node y.body < key_at b + 1)
   -- the node's key is
   pub present : ¬ HasMark (link_at y.body 3) → y.node ≡ None → contains (keys_of updates) (key_at y.body) ≡ true

@@ -26,14 +26,14 @@ still_drawn v w r setup mine d = record {
 }
 
 -- a record that isn't being handed out
-abbrev pub IsChain : Standing → Type 0
-IsChain (Handing n) = ⊥
-IsChain Own = ⊥
-IsChain Spare = Unit {0}
-IsChain TakenOut = Unit {0}
-IsChain Limbo = Unit {0}
-IsChain Free = Unit {0}
-IsChain Spent = Unit {0}
+abbrev pub IsThere : Standing → Type 0
+IsThere (Handing n) = ⊥
+IsThere Own = Unit {0}
+IsThere Spare = Unit {0}
+IsThere TakenOut = Unit {0}
+IsThere Limbo = Unit {0}
+IsThere Free = Unit {0}
+IsThere Spent = Unit {0}
 
 -- one that is, or was
 abbrev IsBusy : Standing → Type 0
@@ -45,20 +45,11 @@ IsBusy Limbo = ⊥
 IsBusy Free = ⊥
 IsBusy Spent = ⊥
 
--- they differ
-apart : (a b : Standing) → IsBusy a → IsChain b → a ≢ b
-apart a b busy chain e = clash b (subst IsBusy e busy) chain
-  where
-    clash : (s : Standing) → IsBusy s → IsChain s → ⊥
-    clash (Handing n) x y = y
-    clash Own x y = y
-    clash Spare x y = x
-    clash TakenOut x y = x
-    clash Limbo x y = x
-    clash Free x y = x
-    clash Spent x y = x
+-- one that is differs from one that isn't
+apart : (a b : Standing) (n : ℕ) → a ≡ Handing n → IsThere b → a ≢ b
+apart a b n is there e = subst IsThere (sym e ∙ is) there
 
--- neither is in limbo
+-- it isn't in limbo
 no_limbo : (h : Share) (s : Standing) → IsBusy s → limbo_as h s ≡ None
 no_limbo h (Handing n) b = refl
 no_limbo h Own b = refl
@@ -96,17 +87,17 @@ module _ (v : View) (r : RefParts) (birth : ℕ) (d : HasDrawn v r) where
   limbo (suc n) lt j = limbo_stays (at n) (at (suc n)) r.index (share n) (share (suc n)) (share_known v r.index row d.share d.known n) (ap (λ (x : View). x.own.mine) (more n)) (no_limbo (share n) (share n).standing (busy n (omega arith))) (no_limbo (share (suc n)) (share (suc n)).standing (busy (suc n) (omega arith))) j
       ∙ limbo n (omega arith) j
 
-  -- and so do records in chains
-  stay : (standing : Standing) → IsChain standing → (n : ℕ) → n < 9 → Stays standing v (at n)
-  stay standing chain zero lt i h known is = known
-  stay standing chain (suc n) lt i h known is = others_stay (at n) (at (suc n)) r.index (share n) (share (suc n)) (share_known v r.index row d.share d.known n) (ap (λ (x : View). x.own.mine) (more n)) standing
-      (apart (share n).standing standing (busy n (omega arith)) chain) i h (stay standing chain n (omega arith) i h known is) is
+  -- and so do records that aren't being handed out
+  stay : (standing : Standing) → IsThere standing → (n : ℕ) → n < 9 → Stays standing v (at n)
+  stay standing there zero lt i h known is = known
+  stay standing there (suc n) lt i h known is = others_stay (at n) (at (suc n)) r.index (share n) (share (suc n)) (share_known v r.index row d.share d.known n) (ap (λ (x : View). x.own.mine) (more n)) standing
+      (apart (share n).standing standing n (standing_then d.share row n d.fresh (omega arith)) there) i h (stay standing there n (omega arith) i h known is) is
 
 module _ (v w : View) (r : RefParts) (birth : ℕ) (d : HasDrawn v r) (step : w ≡ handed_out v r birth) where
   pub handed_limbo : LimboStays v w
   unfolding handed_out
   handed_limbo = subst (LimboStays v) (sym step) (limbo v r birth d 8 (omega arith))
 
-  pub handed_stay : (standing : Standing) → IsChain standing → Stays standing v w
+  pub handed_stay : (standing : Standing) → IsThere standing → Stays standing v w
   unfolding handed_out
-  handed_stay standing chain = subst (Stays standing v) (sym step) (stay v r birth d standing chain 8 (omega arith))
+  handed_stay standing there = subst (Stays standing v) (sym step) (stay v r birth d standing there 8 (omega arith))

@@ -12,3 +12,5 @@ pub mod Entries
 pub mod NodeSteps
 pub mod Dids
 pub mod Seats
+mod Owns
+mod StepKeeps

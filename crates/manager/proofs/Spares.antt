@@ -24,7 +24,9 @@ use Rattle.record_rule.proofs.TakesFree.{read_with}
 use Rattle.reclaim_api.specs.Chained.{IsAs, IsChainOf, refs_in}
 use Rattle.reclaim_api.specs.Frames.{limbo_as}
 use Rattle.reclaim_api.proofs.Kept.{Stays, chain_stays, row_stays, as_stays}
+use Rattle.manager.specs.Callers.{KeepsOwnBut}
 use Rattle.manager.proofs.OneShare.{LimboStays, here, others_stay, limbo_stays}
+use Rattle.manager.proofs.Owns.{owns_but}
 
 -- the chain's first record, where it has one, is in range
 head_in_range : (rows : RefParts → Row) (owns : RefParts → Type 0) (chain : Chain) (refs : List RefParts) → IsList owns rows chain refs → IsTarget chain.head
@@ -70,6 +72,10 @@ module _ (v w : View) (chain after : Chain) (r : RefParts) (row : List ℕ) (lis
 
   spares_stay : Stays Spare v w
   spares_stay = others_stay v w r.index was is own.known pushed_mine Spare (λ e. (let two : Own ≡ Spare = sym own.standing_is ∙ e in let none : ⊥ = cc in none))
+
+  -- and so do the other own ones
+  pub pushed_owns : KeepsOwnBut r.index v w
+  pushed_owns = owns_but v w pushed_records r.index (Some is) pushed_mine
 
   -- it was none of them
   apart : IsApart r (refs_in v chain)

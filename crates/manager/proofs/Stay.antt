@@ -18,7 +18,8 @@ use Rattle.reclaim_api.specs.Chained.{IsChainOf}
 use Rattle.reclaim_api.specs.Guarding.{IsInside}
 use Rattle.reclaim_api.specs.Frames.{SamePart, in_limbo, LeavesRecords, FreesInto}
 use Rattle.reclaim_api.specs.Holds.{KeepsHeld}
-use Rattle.reclaim_api.proofs.Kept.{Stays, chain_stays, keeps_held, goes_on}
+use Rattle.reclaim_api.proofs.Kept.{Stays, chain_stays, goes_on}
+use Rattle.reclaim_api.proofs.Keeping.{keeps_same}
 use Rattle.manager.specs.Callers.{HasChains, IsResting, AnswersNone}
 use Rattle.manager.proofs.OneShare.{LimboStays}
 
@@ -59,7 +60,7 @@ module _ {S R : Type 0} (p q : Pass S R) (same : IsSamePass p q) (steps : List S
 
   -- it holds what it held
   pub keeps_after : KeepsHeld p q
-  keeps_after = keeps_held p q (ap (λ x. x.value.me.0) same.since) same.setup (ap (λ (v : View). v.own.guard) made.rest) (ap (λ (v : View). v.own.notes) made.rest) (ap (λ (v : View). v.seen_updates) made.rest)
+  keeps_after = keeps_same p q (ap (λ x. x.value.me.0) same.since) same.setup (ap (λ (v : View). v.own.guard) made.rest) (ap (λ (v : View). v.own.notes) made.rest) (ap (λ (v : View). v.seen_updates) made.rest)
 
   -- and answered no call
   pub answers_after : AnswersNone (view p) (view q)

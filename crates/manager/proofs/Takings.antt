@@ -15,6 +15,8 @@ use Rattle.reclaim_api.specs.Chained.{IsAs, IsChainOf}
 use Rattle.reclaim_api.specs.Frames.{limbo_as}
 use Rattle.reclaim_api.proofs.Kept.{chain_stays}
 use Rattle.manager.proofs.OneShare.{LimboStays, others_stay, limbo_stays}
+use Rattle.manager.specs.Callers.{KeepsOwn}
+use Rattle.manager.proofs.Owns.{owns_stay}
 use Rattle.manager.proofs.Pops.{first_as, popped_list}
 
 -- a spare record
@@ -63,6 +65,10 @@ module _ (v w : View) (chain after : Chain) (r : RefParts) (list : IsChainOf Spa
     pub taken_free : (free : Chain) → IsChainOf Free v free → IsChainOf Free w free
     taken_free free h = chain_stays Free v w records (others_stay v w r.index was is spare_as.owns.known taken_mine Free (λ e. (let two : Spare ≡ Free = sym spare_as.standing_is ∙ e in let none : ⊥ = cc in none))) free h
 
+    -- and the own ones
+    pub taken_owns : KeepsOwn v w
+    taken_owns = owns_stay v w records (others_stay v w r.index was is spare_as.owns.known taken_mine Own (λ e. (let two : Spare ≡ Own = sym spare_as.standing_is ∙ e in let none : ⊥ = cc in none)))
+
     -- the spare ones are the others
     pub taken_rest : IsChainOf Spare w after
     taken_rest = popped_list Spare v w chain after r list head is taken_mine records next count
@@ -101,6 +107,10 @@ module _ (v w : View) (chain after : Chain) (r : RefParts) (list : IsChainOf Fre
     -- and so do the spare ones
     pub again_spare : (spare : Chain) → IsChainOf Spare v spare → IsChainOf Spare w spare
     again_spare spare h = chain_stays Spare v w same_records (others_stay v w r.index old new told.was.known again_mine Spare (λ e. (let two : Free ≡ Spare = sym told.was.free ∙ e in let none : ⊥ = cc in none))) spare h
+
+    -- and the own ones
+    pub again_owns : KeepsOwn v w
+    again_owns = owns_stay v w same_records (others_stay v w r.index old new told.was.known again_mine Own (λ e. (let two : Free ≡ Own = sym told.was.free ∙ e in let none : ⊥ = cc in none)))
 
     -- the free ones are the others
     pub again_rest : IsChainOf Free w after

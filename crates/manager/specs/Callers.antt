@@ -1,8 +1,10 @@
 -- What clauses say of a caller, inside an operation and outside.
-use Rattle.std.specs.Prelude.{◌≡◌, ◌+◌, false}
+use Rattle.std.specs.Prelude.{◌≡◌, ◌≢◌, ℕ, ◌+◌, ◌-◌, false}
 use Rattle.record_memory.specs.declared.books.View.{View}
 use Rattle.record_memory.specs.declared.books.Standing.TheVariants.{Free, Spare}
+use Rattle.row_words.specs.Refs.{RefParts}
 use Rattle.row_words.specs.declared.links.Chain.{Chain}
+use Rattle.record_rule.specs.HandingOut.{IsOwnOf}
 use Rattle.record_table.specs.declared.passes.Pass.{Pass}
 use Rattle.record_table.specs.Handles.{view, is_inside}
 use Rattle.record_rule.specs.Kinds.{idle}
@@ -36,3 +38,11 @@ module _ {S R L : Type 0} (is_local : L → View → Type 0) where
 pub record AnswersNone (v w : View) : Type 0 where
   pub answered : w.own.answered ≡ v.own.answered
   pub front : w.front ≡ v.front
+
+-- its own records are its own still
+abbrev pub KeepsOwn : View → View → Type 0
+KeepsOwn v w = (r : RefParts) → IsOwnOf v r → IsOwnOf w r
+
+-- but for the one with this index
+abbrev pub KeepsOwnBut : ℕ → View → View → Type 0
+KeepsOwnBut i v w = (r : RefParts) → r.index - 1 ≢ i - 1 → IsOwnOf v r → IsOwnOf w r

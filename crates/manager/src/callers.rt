@@ -6,7 +6,7 @@ ghost use Rattle.record_table.specs.Handles.{setup_of, view, IsPassOf, IsSamePas
 ghost use Rattle.record_table.specs.Nodes.{origin, HoldsNode};
 ghost use Rattle.reclaim_api.specs.Guarding.{Enters, Leaves};
 ghost use Rattle.reclaim_api.specs.Frames.{LeavesRest, LeavesRecords};
-ghost use Rattle.reclaim_api.specs.Holds.{HasReached, HoldsElse};
+ghost use Rattle.reclaim_api.specs.Holds.{IsElsewhere, HasReached, KeepsElse};
 ghost use Rattle.manager.specs.Callers.{IsWorking, IsResting};
 
 use crate::types::Caller;
@@ -49,6 +49,7 @@ pub(crate) fn reach<S: Shape, R: Scheme>(
     requires caller { IsWorking R.is_local caller.old }
     requires place { place < R.PLACES }
     requires from { HoldsNode caller.old.pass from }
+    requires elsewhere { IsElsewhere (origin from) place }
     requires field { field ≡ 3 }
     requires link { S.facts.may_hold (near_of (view caller.old.pass) (origin from)) 3 }
     ensures of { IsPassOf table.now caller.new.pass }
@@ -56,7 +57,7 @@ pub(crate) fn reach<S: Shape, R: Scheme>(
     ensures pass { IsSamePass caller.old.pass caller.new.pass }
     ensures rest { LeavesRecords (view caller.old.pass) (view caller.new.pass) }
     ensures reached { HasReached S.facts place (origin from) caller.old.pass result caller.new.pass }
-    ensures others { HoldsElse place caller.old.pass caller.new.pass }
+    ensures keeps { KeepsElse place caller.old.pass caller.new.pass }
     ensures does { R.reaches (setup_of table.now) place from field (view caller.old.pass).own result (view caller.new.pass).own }
 {
     R::reach(

@@ -2,7 +2,7 @@
 ghost use Rattle.std.specs.Prelude.{◌≡◌, ◌≢◌, ◌+◌, ◌<◌, ◌≤◌, ◌^◌, ◌∷◌, ◌++◌, [], ℕ, List, Option, Some, None, MatchResult, IfOk, drop};
 ghost use Rattle.record_memory.specs.declared.steps.Step.{Step};
 ghost use Rattle.record_memory.specs.declared.books.Share.{Share};
-ghost use Rattle.row_words.specs.Refs.{RefParts, LinkParts};
+ghost use Rattle.row_words.specs.Refs.{LinkParts};
 ghost use Rattle.row_words.specs.declared.links.Freed.{Freed};
 ghost use Rattle.row_words.specs.Packing.{key_in, link_in, packed_number, IsLink, IsPackedRef};
 ghost use Rattle.record_rule.specs.Facts.{Near, clean};
@@ -14,10 +14,10 @@ ghost use Rattle.record_table.specs.Handles.{setup_of, view, IsPassOf, IsSamePas
 ghost use Rattle.record_table.specs.Nodes.{origin, origin_held, HoldsNode, HoldsThere, HasStarted, is_first, MayPlaceIn, IsRefused};
 ghost use Rattle.reclaim_api.specs.Guarding.{Enters, Leaves};
 ghost use Rattle.reclaim_api.specs.Frames.{LeavesRest, LeavesRecords};
-ghost use Rattle.reclaim_api.specs.Holds.{HasReached, HoldsElse, KeepsHeld};
+ghost use Rattle.reclaim_api.specs.Holds.{IsElsewhere, HasReached, KeepsElse, KeepsHeld, KeepsButLink};
 ghost use Rattle.record_pieces.specs.Events.{hopped, keyed, looked, exchanged, published, unlinked, stored_own, took, refused, gave_back, retired, placed};
 ghost use Rattle.record_rule.specs.Placing.{placed_view};
-ghost use Rattle.manager.specs.Callers.{IsWorking, IsResting, AnswersNone};
+ghost use Rattle.manager.specs.Callers.{IsWorking, IsResting, AnswersNone, KeepsOwn, KeepsOwnBut};
 ghost use Rattle.manager.specs.Guards.{IsAtWork, Did};
 
 use crate::callers::{enter, leave, reach};
@@ -54,13 +54,15 @@ impl<S: Shape, R: Scheme, A: Allocator, P: Pool> Manager<S, R, A, P> {
 
 impl<'a, S: Shape, R: Scheme, A: Allocator, P: Pool> Guard<'a, S, R, A, P> {
     /// Tries to hold, at `place`, what the link of `from` leads to. `place` is below the reclaimer's
-    /// `PLACES`, and `field` is 3, the word that holds a set's link; the set says which links may be
-    /// followed. `Held`: the record is held at that place from now on, until `finish` or the next use of
-    /// the place. At every other answer the place holds nothing. What other places hold stays.
+    /// `PLACES` and isn't the place of `from`, and `field` is 3, the word that holds a set's link; the set
+    /// says which links may be followed. `Held`: the record is held at that place from now on, until
+    /// `finish` or the next use of the place. At every other answer the place holds nothing. What other
+    /// places hold stays.
     pub fn hold(&mut self, place: u8, from: Node, field: u8) -> Holding
         requires at_work { IsAtWork self.old }
         requires place { place < R.PLACES }
         requires from { HoldsNode self.old.caller.now.pass from }
+        requires elsewhere { IsElsewhere (origin from) place }
         requires field { field ≡ 3 }
         requires link { S.facts.may_hold (near_of (view self.old.caller.now.pass) (origin from)) 3 }
         ensures same_reference { (self.new.caller.ghost_name ≡ self.old.caller.ghost_name) × (self.new.manager.now ≡ self.old.manager.now) }
@@ -68,7 +70,9 @@ impl<'a, S: Shape, R: Scheme, A: Allocator, P: Pool> Guard<'a, S, R, A, P> {
         ensures pass { IsSamePass self.old.caller.now.pass self.new.caller.now.pass }
         ensures rest { LeavesRecords (view self.old.caller.now.pass) (view self.new.caller.now.pass) }
         ensures reached { HasReached S.facts place (origin from) self.old.caller.now.pass result self.new.caller.now.pass }
-        ensures others { HoldsElse place self.old.caller.now.pass self.new.caller.now.pass }
+        ensures keeps { KeepsElse place self.old.caller.now.pass self.new.caller.now.pass }
+        ensures answers { AnswersNone (view self.old.caller.now.pass) (view self.new.caller.now.pass) }
+        ensures owns { KeepsOwn (view self.old.caller.now.pass) (view self.new.caller.now.pass) }
         ensures did { Did self.old (hopped place from field result) self.new }
     {
         reach(&self.manager.table, self.caller, place, from, field)
@@ -83,8 +87,9 @@ impl<'a, S: Shape, R: Scheme, A: Allocator, P: Pool> Guard<'a, S, R, A, P> {
         ensures same_reference { (self.new.caller.ghost_name ≡ self.old.caller.ghost_name) × (self.new.manager.now ≡ self.old.manager.now) }
         ensures at_work { IsAtWork self.new }
         ensures pass { IsSamePass self.old.caller.now.pass self.new.caller.now.pass }
-        ensures held { KeepsHeld self.old.caller.now.pass self.new.caller.now.pass }
+        ensures keeps { KeepsHeld self.old.caller.now.pass self.new.caller.now.pass }
         ensures answers { AnswersNone (view self.old.caller.now.pass) (view self.new.caller.now.pass) }
+        ensures owns { KeepsOwn (view self.old.caller.now.pass) (view self.new.caller.now.pass) }
         ensures own { MatchResult result (λ own. IsOwnOf (view self.new.caller.now.pass) own) (λ _. Unit {0}) }
         ensures did { MatchResult result (λ own. Did self.old (took own) self.new) (λ none. Did self.old (refused none.found) self.new) }
     {
@@ -98,6 +103,9 @@ impl<'a, S: Shape, R: Scheme, A: Allocator, P: Pool> Guard<'a, S, R, A, P> {
         ensures same_reference { (self.new.caller.ghost_name ≡ self.old.caller.ghost_name) × (self.new.manager.now ≡ self.old.manager.now) }
         ensures at_work { IsAtWork self.new }
         ensures pass { IsSamePass self.old.caller.now.pass self.new.caller.now.pass }
+        ensures keeps { KeepsHeld self.old.caller.now.pass self.new.caller.now.pass }
+        ensures answers { AnswersNone (view self.old.caller.now.pass) (view self.new.caller.now.pass) }
+        ensures owns { KeepsOwnBut own.index (view self.old.caller.now.pass) (view self.new.caller.now.pass) }
         ensures made { (steps : List Step) × Makes (view self.old.caller.now.pass) (view self.new.caller.now.pass) steps }
         ensures did { Did self.old (gave_back own) self.new }
     {
@@ -112,9 +120,9 @@ impl<'a, S: Shape, R: Scheme, A: Allocator, P: Pool> Guard<'a, S, R, A, P> {
         ensures same_reference { (self.new.caller.ghost_name ≡ self.old.caller.ghost_name) × (self.new.manager.now ≡ self.old.manager.now) }
         ensures at_work { IsAtWork self.new }
         ensures pass { IsSamePass self.old.caller.now.pass self.new.caller.now.pass }
-        ensures held { KeepsHeld self.old.caller.now.pass self.new.caller.now.pass }
+        ensures keeps { KeepsHeld self.old.caller.now.pass self.new.caller.now.pass }
         ensures answers { AnswersNone (view self.old.caller.now.pass) (view self.new.caller.now.pass) }
-        ensures owns { (r : RefParts) → IsOwnOf (view self.old.caller.now.pass) r → IsOwnOf (view self.new.caller.now.pass) r }
+        ensures owns { KeepsOwn (view self.old.caller.now.pass) (view self.new.caller.now.pass) }
         ensures did { Did self.old (retired taken) self.new }
     {
         put_away(&self.manager.table, self.caller, taken);
@@ -142,6 +150,9 @@ impl<'a, S: Shape, R: Scheme, A: Allocator, P: Pool> Guard<'a, S, R, A, P> {
         ensures same_reference { (self.new.caller.ghost_name ≡ self.old.caller.ghost_name) × (self.new.manager.now ≡ self.old.manager.now) }
         ensures at_work { IsAtWork self.new }
         ensures pass { IsSamePass self.old.caller.now.pass self.new.caller.now.pass }
+        ensures keeps { KeepsHeld self.old.caller.now.pass self.new.caller.now.pass }
+        ensures answers { AnswersNone (view self.old.caller.now.pass) (view self.new.caller.now.pass) }
+        ensures owns { KeepsOwn (view self.old.caller.now.pass) (view self.new.caller.now.pass) }
         ensures step { (n : ℕ) × (result ≡ key_in n) × LoadedKey (view self.old.caller.now.pass) node.place node.target n (view self.new.caller.now.pass) }
         ensures did { Did self.old (keyed node.target result) self.new }
     {
@@ -158,6 +169,9 @@ impl<'a, S: Shape, R: Scheme, A: Allocator, P: Pool> Guard<'a, S, R, A, P> {
         ensures same_reference { (self.new.caller.ghost_name ≡ self.old.caller.ghost_name) × (self.new.manager.now ≡ self.old.manager.now) }
         ensures at_work { IsAtWork self.new }
         ensures pass { IsSamePass self.old.caller.now.pass self.new.caller.now.pass }
+        ensures keeps { KeepsHeld self.old.caller.now.pass self.new.caller.now.pass }
+        ensures answers { AnswersNone (view self.old.caller.now.pass) (view self.new.caller.now.pass) }
+        ensures owns { KeepsOwn (view self.old.caller.now.pass) (view self.new.caller.now.pass) }
         ensures step { (n : ℕ) × (result ≡ link_in n) × LoadedLink S.facts R.facts (view self.old.caller.now.pass) (origin node) 3 (is_first self.old.caller.now.pass) n (view self.new.caller.now.pass) }
         ensures did { Did self.old (looked node 3 result) self.new }
     {
@@ -184,6 +198,9 @@ impl<'a, S: Shape, R: Scheme, A: Allocator, P: Pool> Guard<'a, S, R, A, P> {
         ensures same_reference { (self.new.caller.ghost_name ≡ self.old.caller.ghost_name) × (self.new.manager.now ≡ self.old.manager.now) }
         ensures at_work { IsAtWork self.new }
         ensures pass { IsSamePass self.old.caller.now.pass self.new.caller.now.pass }
+        ensures keeps { MatchResult result (λ _. KeepsButLink (origin node) self.old.caller.now.pass self.new.caller.now.pass) (λ _. KeepsHeld self.old.caller.now.pass self.new.caller.now.pass) }
+        ensures answers { MatchResult result (λ _. decides ≡ None → AnswersNone (view self.old.caller.now.pass) (view self.new.caller.now.pass)) (λ _. AnswersNone (view self.old.caller.now.pass) (view self.new.caller.now.pass)) }
+        ensures owns { KeepsOwn (view self.old.caller.now.pass) (view self.new.caller.now.pass) }
         ensures step { MatchResult result
             (λ _. ExchangedLink S.facts (view self.old.caller.now.pass) (origin node) 3 expected new decides (view self.new.caller.now.pass))
             (λ found. IsRefused (view self.old.caller.now.pass) (origin node) expected found.link (view self.new.caller.now.pass)) }
@@ -221,6 +238,9 @@ impl<'a, S: Shape, R: Scheme, A: Allocator, P: Pool> Guard<'a, S, R, A, P> {
         ensures same_reference { (self.new.caller.ghost_name ≡ self.old.caller.ghost_name) × (self.new.manager.now ≡ self.old.manager.now) }
         ensures at_work { IsAtWork self.new }
         ensures pass { IsSamePass self.old.caller.now.pass self.new.caller.now.pass }
+        ensures keeps { MatchResult result (λ _. KeepsButLink (origin node) self.old.caller.now.pass self.new.caller.now.pass) (λ _. KeepsHeld self.old.caller.now.pass self.new.caller.now.pass) }
+        ensures answers { MatchResult result (λ _. decides ≡ None → AnswersNone (view self.old.caller.now.pass) (view self.new.caller.now.pass)) (λ _. AnswersNone (view self.old.caller.now.pass) (view self.new.caller.now.pass)) }
+        ensures owns { MatchResult result (λ _. KeepsOwnBut own.index (view self.old.caller.now.pass) (view self.new.caller.now.pass)) (λ _. KeepsOwn (view self.old.caller.now.pass) (view self.new.caller.now.pass)) }
         ensures step { MatchResult result
             (λ _. PublishedLink S.facts (view self.old.caller.now.pass) (origin node) 3 expected own decides (view self.new.caller.now.pass))
             (λ back. (back.0 ≡ own) × IsRefused (view self.old.caller.now.pass) (origin node) expected back.1.link (view self.new.caller.now.pass)) }
@@ -256,6 +276,9 @@ impl<'a, S: Shape, R: Scheme, A: Allocator, P: Pool> Guard<'a, S, R, A, P> {
         ensures same_reference { (self.new.caller.ghost_name ≡ self.old.caller.ghost_name) × (self.new.manager.now ≡ self.old.manager.now) }
         ensures at_work { IsAtWork self.new }
         ensures pass { IsSamePass self.old.caller.now.pass self.new.caller.now.pass }
+        ensures keeps { MatchResult result (λ _. KeepsButLink (origin node) self.old.caller.now.pass self.new.caller.now.pass) (λ _. KeepsHeld self.old.caller.now.pass self.new.caller.now.pass) }
+        ensures answers { AnswersNone (view self.old.caller.now.pass) (view self.new.caller.now.pass) }
+        ensures owns { KeepsOwn (view self.old.caller.now.pass) (view self.new.caller.now.pass) }
         ensures step { MatchResult result
             (λ taken. (taken ≡ gone.target) × UnlinkedRecord S.facts (view self.old.caller.now.pass) (origin node) 3 gone.target new (view self.new.caller.now.pass))
             (λ found. IsRefused (view self.old.caller.now.pass) (origin node) (clean gone.target) found.link (view self.new.caller.now.pass)) }
@@ -276,6 +299,8 @@ impl<'a, S: Shape, R: Scheme, A: Allocator, P: Pool> Guard<'a, S, R, A, P> {
         ensures same_reference { (self.new.caller.ghost_name ≡ self.old.caller.ghost_name) × (self.new.manager.now ≡ self.old.manager.now) }
         ensures at_work { IsAtWork self.new }
         ensures pass { IsSamePass self.old.caller.now.pass self.new.caller.now.pass }
+        ensures keeps { KeepsHeld self.old.caller.now.pass self.new.caller.now.pass }
+        ensures owns { KeepsOwn (view self.old.caller.now.pass) (view self.new.caller.now.pass) }
         ensures step { (position : ℕ) × (found : ℕ) × MayPlaceIn S.facts (view self.old.caller.now.pass) position call reply × (view self.new.caller.now.pass ≡ placed_view (view self.old.caller.now.pass) 0 found position call reply) }
         ensures did { Did self.old (placed call reply) self.new }
     {
@@ -295,6 +320,9 @@ impl<'a, S: Shape, R: Scheme, A: Allocator, P: Pool> Guard<'a, S, R, A, P> {
         ensures pass { IsSamePass self.old.caller.now.pass self.new.caller.now.pass }
         ensures record { own.new ≡ own.old }
         ensures own { IsOwnOf (view self.new.caller.now.pass) own.old }
+        ensures keeps { KeepsHeld self.old.caller.now.pass self.new.caller.now.pass }
+        ensures answers { AnswersNone (view self.old.caller.now.pass) (view self.new.caller.now.pass) }
+        ensures owns { KeepsOwn (view self.old.caller.now.pass) (view self.new.caller.now.pass) }
         ensures step { view self.new.caller.now.pass ≡ stored (view self.old.caller.now.pass) own.old.index word (packed_number own.old.generation payload) }
         ensures did { Did self.old (stored_own own.old word payload) self.new }
     {

@@ -3,7 +3,6 @@ ghost use Rattle.std.specs.Prelude.{◌≡◌, ◌+◌, ◌++◌, ℕ, List, [],
 ghost use Rattle.record_memory.specs.declared.books.Book.{Book};
 ghost use Rattle.record_memory.specs.declared.books.Share.{Share};
 ghost use Rattle.record_memory.specs.declared.steps.Step.{Step};
-ghost use Rattle.row_words.specs.Refs.{RefParts};
 ghost use Rattle.row_words.specs.declared.links.Freed.{Freed};
 ghost use Rattle.record_rule.specs.HandingOut.{HasDrawn, IsOwnOf};
 ghost use Rattle.record_rule.specs.Links.{HasTaken};
@@ -14,7 +13,7 @@ ghost use Rattle.record_pieces.specs.Events.{own_load, own_store, HandsOut, Gets
 ghost use Rattle.pool.specs.Calls.{Takes};
 ghost use Rattle.pool.specs.declared.Taken.TheVariants.{Some as Took, None as FoundNone};
 ghost use Rattle.manager.specs.Manners.{manner};
-ghost use Rattle.manager.specs.Callers.{IsWorking, AnswersNone};
+ghost use Rattle.manager.specs.Callers.{IsWorking, AnswersNone, KeepsOwn, KeepsOwnBut};
 
 use crate::types::Caller;
 use alloc_api::{Allocator, NoRecord};
@@ -30,6 +29,7 @@ fn take_spare<S: Shape, R: Scheme>(table: &Table<S, R>, caller: &mut Caller<S, R
     ensures of { IsPassOf table.now caller.new.pass }
     ensures caller { IsWorking R.is_local caller.new }
     ensures pass { IsSamePass caller.old.pass caller.new.pass }
+    ensures owns { KeepsOwn (view caller.old.pass) (view caller.new.pass) }
     ensures none { IfNone result ((caller.new ≡ caller.old) × (caller.old.spare.head ≡ None)) }
     ensures own { IfSome result (λ own. IsOwnOf (view caller.new.pass) own) }
     ensures made { IfSome result (λ own. (n : ℕ) × Makes (view caller.old.pass) (view caller.new.pass) (own_load (view caller.old.pass).own own 1 n ∷ [])) }
@@ -53,6 +53,7 @@ pub(crate) fn set_spare<S: Shape, R: Scheme>(
     ensures of { IsPassOf table.now caller.new.pass }
     ensures caller { IsWorking R.is_local caller.new }
     ensures pass { IsSamePass caller.old.pass caller.new.pass }
+    ensures owns { KeepsOwnBut own.index (view caller.old.pass) (view caller.new.pass) }
     ensures made { (found : ℕ) × (left : ℕ) × Makes (view caller.old.pass) (view caller.new.pass) (own_store (view caller.old.pass).own own 1 found left ∷ []) }
 {
     let r = table.set_aside(&mut caller.pass, own, caller.spare.head);
@@ -73,9 +74,9 @@ pub(crate) fn put_away<S: Shape, R: Scheme>(
     ensures of { IsPassOf table.now caller.new.pass }
     ensures caller { IsWorking R.is_local caller.new }
     ensures pass { IsSamePass caller.old.pass caller.new.pass }
-    ensures held { KeepsHeld caller.old.pass caller.new.pass }
+    ensures keeps { KeepsHeld caller.old.pass caller.new.pass }
     ensures answers { AnswersNone (view caller.old.pass) (view caller.new.pass) }
-    ensures owns { (r : RefParts) → IsOwnOf (view caller.old.pass) r → IsOwnOf (view caller.new.pass) r }
+    ensures owns { KeepsOwn (view caller.old.pass) (view caller.new.pass) }
     ensures does { (f : Freed) × R.puts_away (setup_of table.now) (view caller.old.pass).own taken f (view caller.new.pass).own }
 {
     R::put_away(
@@ -98,6 +99,7 @@ fn draw<S: Shape, R: Scheme, A: Allocator>(
     ensures of { IsPassOf table.now caller.new.pass }
     ensures caller { IsWorking R.is_local caller.new }
     ensures pass { IsSamePass caller.old.pass caller.new.pass }
+    ensures owns { KeepsOwn (view caller.old.pass) (view caller.new.pass) }
     ensures made { (steps : List Step) × Makes (view caller.old.pass) (view caller.new.pass) steps }
     ensures drawn { MatchResult result (λ r. HasDrawn (view caller.new.pass) r) (λ _. Unit {0}) }
     ensures does { MatchResult result (λ r. A.draws (view caller.old.pass) r (view caller.new.pass)) (λ none. A.refuses (view caller.old.pass) none.found (view caller.new.pass)) }
@@ -112,6 +114,7 @@ fn take_free<S: Shape, R: Scheme>(table: &Table<S, R>, caller: &mut Caller<S, R>
     ensures of { IsPassOf table.now caller.new.pass }
     ensures caller { IsWorking R.is_local caller.new }
     ensures pass { IsSamePass caller.old.pass caller.new.pass }
+    ensures owns { KeepsOwn (view caller.old.pass) (view caller.new.pass) }
     ensures none { IfNone result ((caller.new ≡ caller.old) × (caller.old.free.head ≡ None)) }
     ensures drawn { IfSome result (λ r. HasDrawn (view caller.new.pass) r) }
     ensures made { IfSome result (λ r. (n : ℕ) × Makes (view caller.old.pass) (view caller.new.pass) (own_load (view caller.old.pass).own r 1 n ∷ [])) }
@@ -131,6 +134,7 @@ fn take_chain<S: Shape, R: Scheme, P: Pool>(table: &Table<S, R>, caller: &mut Ca
     ensures of { IsPassOf table.now caller.new.pass }
     ensures caller { IsWorking R.is_local caller.new }
     ensures pass { IsSamePass caller.old.pass caller.new.pass }
+    ensures owns { KeepsOwn (view caller.old.pass) (view caller.new.pass) }
     ensures made { (steps : List Step) × Makes (view caller.old.pass) (view caller.new.pass) steps }
     ensures some { result ≡ true → Takes P.SHELVES P.busy (view caller.old.pass) (view caller.new.pass) (Took caller.new.free) }
     ensures none { result ≡ false → Takes P.SHELVES P.busy (view caller.old.pass) (view caller.new.pass) FoundNone × (caller.new.free ≡ caller.old.free) }
@@ -152,8 +156,9 @@ fn hand_out<S: Shape, R: Scheme>(table: &Table<S, R>, caller: &mut Caller<S, R>,
     ensures of { IsPassOf table.now caller.new.pass }
     ensures caller { IsWorking R.is_local caller.new }
     ensures pass { IsSamePass caller.old.pass caller.new.pass }
-    ensures held { KeepsHeld caller.old.pass caller.new.pass }
+    ensures keeps { KeepsHeld caller.old.pass caller.new.pass }
     ensures answers { AnswersNone (view caller.old.pass) (view caller.new.pass) }
+    ensures owns { KeepsOwn (view caller.old.pass) (view caller.new.pass) }
     ensures own { IsOwnOf (view caller.new.pass) result }
     ensures record { result ≡ r }
     ensures does { (d : Book) × (birth : ℕ) × R.bears (setup_of table.now) (view caller.old.pass).own birth d × HandsOut r birth d (view caller.new.pass).own }
@@ -174,6 +179,7 @@ fn take_next<S: Shape, R: Scheme, A: Allocator, P: Pool>(
     ensures of { IsPassOf table.now caller.new.pass }
     ensures caller { IsWorking R.is_local caller.new }
     ensures pass { IsSamePass caller.old.pass caller.new.pass }
+    ensures owns { KeepsOwn (view caller.old.pass) (view caller.new.pass) }
     ensures made { (steps : List Step) × Makes (view caller.old.pass) (view caller.new.pass) steps }
     ensures drawn { MatchResult result (λ r. HasDrawn (view caller.new.pass) r) (λ _. Unit {0}) }
     ensures did { MatchResult result
@@ -203,8 +209,9 @@ pub(crate) fn fresh<S: Shape, R: Scheme, A: Allocator, P: Pool>(
     ensures of { IsPassOf table.now caller.new.pass }
     ensures caller { IsWorking R.is_local caller.new }
     ensures pass { IsSamePass caller.old.pass caller.new.pass }
-    ensures held { KeepsHeld caller.old.pass caller.new.pass }
+    ensures keeps { KeepsHeld caller.old.pass caller.new.pass }
     ensures answers { AnswersNone (view caller.old.pass) (view caller.new.pass) }
+    ensures owns { KeepsOwn (view caller.old.pass) (view caller.new.pass) }
     ensures own { MatchResult result (λ own. IsOwnOf (view caller.new.pass) own) (λ _. Unit {0}) }
     ensures did { MatchResult result
         (λ own. TakesRecord (manner R.enters R.leaves R.bears R.reaches R.puts_away A.draws A.refuses P.SHELVES P.busy) (setup_of table.now) (view caller.old.pass).own own (view caller.new.pass).own)

@@ -9,7 +9,8 @@ ghost use Rattle.record_rule.specs.Links.{LoadedKey, LoadedLink, ExchangedLink, 
 ghost use Rattle.record_table.specs.Handles.{setup_of, view, IsPassOf, IsSamePass};
 ghost use Rattle.record_table.specs.Nodes.{origin, origin_held, HoldsThere, HoldsNode, HasStarted, is_first, MayPlaceIn, IsRefused};
 ghost use Rattle.record_rule.specs.Placing.{placed_view};
-ghost use Rattle.manager.specs.Callers.{IsWorking};
+ghost use Rattle.reclaim_api.specs.Holds.{KeepsHeld, KeepsButLink};
+ghost use Rattle.manager.specs.Callers.{IsWorking, AnswersNone, KeepsOwn, KeepsOwnBut};
 
 use crate::types::Caller;
 use reclaim_api::Scheme;
@@ -28,6 +29,9 @@ pub(crate) fn load_key<S: Shape, R: Scheme>(
     ensures of { IsPassOf table.now caller.new.pass }
     ensures caller { IsWorking R.is_local caller.new }
     ensures pass { IsSamePass caller.old.pass caller.new.pass }
+    ensures keeps { KeepsHeld caller.old.pass caller.new.pass }
+    ensures answers { AnswersNone (view caller.old.pass) (view caller.new.pass) }
+    ensures owns { KeepsOwn (view caller.old.pass) (view caller.new.pass) }
     ensures step { (n : ℕ) × (result ≡ key_in n) × LoadedKey (view caller.old.pass) node.place node.target n (view caller.new.pass) }
 {
     table.load_key(&mut caller.pass, node)
@@ -46,6 +50,9 @@ pub(crate) fn load_link<S: Shape, R: Scheme>(
     ensures of { IsPassOf table.now caller.new.pass }
     ensures caller { IsWorking R.is_local caller.new }
     ensures pass { IsSamePass caller.old.pass caller.new.pass }
+    ensures keeps { KeepsHeld caller.old.pass caller.new.pass }
+    ensures answers { AnswersNone (view caller.old.pass) (view caller.new.pass) }
+    ensures owns { KeepsOwn (view caller.old.pass) (view caller.new.pass) }
     ensures step { (n : ℕ) × (result ≡ link_in n) × LoadedLink S.facts R.facts (view caller.old.pass) (origin node) 3 (is_first caller.old.pass) n (view caller.new.pass) }
 {
     table.load_link(&mut caller.pass, node, field)
@@ -70,6 +77,9 @@ pub(crate) fn exchange_link<S: Shape, R: Scheme>(
     ensures of { IsPassOf table.now caller.new.pass }
     ensures caller { IsWorking R.is_local caller.new }
     ensures pass { IsSamePass caller.old.pass caller.new.pass }
+    ensures keeps { MatchResult result (λ _. KeepsButLink (origin node) caller.old.pass caller.new.pass) (λ _. KeepsHeld caller.old.pass caller.new.pass) }
+    ensures answers { MatchResult result (λ _. decides ≡ None → AnswersNone (view caller.old.pass) (view caller.new.pass)) (λ _. AnswersNone (view caller.old.pass) (view caller.new.pass)) }
+    ensures owns { KeepsOwn (view caller.old.pass) (view caller.new.pass) }
     ensures step { MatchResult result
         (λ _. ExchangedLink S.facts (view caller.old.pass) (origin node) 3 expected new decides (view caller.new.pass))
         (λ found. IsRefused (view caller.old.pass) (origin node) expected found.link (view caller.new.pass)) }
@@ -97,6 +107,9 @@ pub(crate) fn publish<S: Shape, R: Scheme>(
     ensures of { IsPassOf table.now caller.new.pass }
     ensures caller { IsWorking R.is_local caller.new }
     ensures pass { IsSamePass caller.old.pass caller.new.pass }
+    ensures keeps { MatchResult result (λ _. KeepsButLink (origin node) caller.old.pass caller.new.pass) (λ _. KeepsHeld caller.old.pass caller.new.pass) }
+    ensures answers { MatchResult result (λ _. decides ≡ None → AnswersNone (view caller.old.pass) (view caller.new.pass)) (λ _. AnswersNone (view caller.old.pass) (view caller.new.pass)) }
+    ensures owns { MatchResult result (λ _. KeepsOwnBut own.index (view caller.old.pass) (view caller.new.pass)) (λ _. KeepsOwn (view caller.old.pass) (view caller.new.pass)) }
     ensures step { MatchResult result
         (λ _. PublishedLink S.facts (view caller.old.pass) (origin node) 3 expected own decides (view caller.new.pass))
         (λ back. (back.0 ≡ own) × IsRefused (view caller.old.pass) (origin node) expected back.1.link (view caller.new.pass)) }
@@ -122,6 +135,9 @@ pub(crate) fn unlink<S: Shape, R: Scheme>(
     ensures of { IsPassOf table.now caller.new.pass }
     ensures caller { IsWorking R.is_local caller.new }
     ensures pass { IsSamePass caller.old.pass caller.new.pass }
+    ensures keeps { MatchResult result (λ _. KeepsButLink (origin node) caller.old.pass caller.new.pass) (λ _. KeepsHeld caller.old.pass caller.new.pass) }
+    ensures answers { AnswersNone (view caller.old.pass) (view caller.new.pass) }
+    ensures owns { KeepsOwn (view caller.old.pass) (view caller.new.pass) }
     ensures step { MatchResult result
         (λ taken. (taken ≡ gone.target) × UnlinkedRecord S.facts (view caller.old.pass) (origin node) 3 gone.target new (view caller.new.pass))
         (λ found. IsRefused (view caller.old.pass) (origin node) (clean gone.target) found.link (view caller.new.pass)) }
@@ -142,6 +158,8 @@ pub(crate) fn place<S: Shape, R: Scheme>(
     ensures of { IsPassOf table.now caller.new.pass }
     ensures caller { IsWorking R.is_local caller.new }
     ensures pass { IsSamePass caller.old.pass caller.new.pass }
+    ensures keeps { KeepsHeld caller.old.pass caller.new.pass }
+    ensures owns { KeepsOwn (view caller.old.pass) (view caller.new.pass) }
     ensures placed { (position : ℕ) × (found : ℕ) × MayPlaceIn S.facts (view caller.old.pass) position call reply × (view caller.new.pass ≡ placed_view (view caller.old.pass) 0 found position call reply) }
 {
     table.place_read(&mut caller.pass, call, reply);
@@ -165,6 +183,9 @@ pub(crate) fn store_own<S: Shape, R: Scheme>(
     ensures pass { IsSamePass caller.old.pass caller.new.pass }
     ensures record { own.new ≡ own.old }
     ensures own { IsOwnOf (view caller.new.pass) own.old }
+    ensures keeps { KeepsHeld caller.old.pass caller.new.pass }
+    ensures answers { AnswersNone (view caller.old.pass) (view caller.new.pass) }
+    ensures owns { KeepsOwn (view caller.old.pass) (view caller.new.pass) }
     ensures step { view caller.new.pass ≡ stored (view caller.old.pass) own.old.index word (packed_number own.old.generation payload) }
 {
     table.store_own(&mut caller.pass, own, word, payload);

@@ -1,14 +1,10 @@
 -- Chains that stay the same lists, and records that stay.
-use Rattle.std.proofs.Common.{Bool, true, false, ◌&&◌, ◌++◌, append_assoc, ◌≡◌, ◌≢◌, ℕ, ◌-◌, ◌<◌, ◌≤◌, [], length, append-nil, get_or, get_or-set_same, get_or-set_other, sym, refl, ap, ◌∙◌, subst, Option, Some, None}
+use Rattle.std.proofs.Common.{Bool, true, false, ◌&&◌, ◌≡◌, ◌≢◌, ℕ, ◌-◌, ◌≤◌, [], append-nil, get_or, get_or-set_same, get_or-set_other, sym, refl, ap, ◌∙◌, subst, Option, Some, None}
 use native.Mathlib.Decide.{ℕ_discrete}
 use Rattle.std.proofs.lemmas.List.Elements.{All-weaker}
 use Rattle.record_memory.specs.declared.books.Book.{Book}
 use Rattle.record_memory.specs.declared.books.Guard.{Guard}
-use Rattle.record_memory.specs.declared.books.Setup.{Setup}
 use Rattle.record_memory.specs.declared.books.View.{View}
-use Rattle.record_table.specs.declared.passes.Pass.{Pass}
-use Rattle.record_table.specs.Handles.{view, since}
-use Rattle.reclaim_api.specs.Holds.{KeepsHeld}
 use Rattle.record_memory.specs.declared.books.Share.{Share}
 use Rattle.record_memory.specs.declared.books.Standing.{Standing}
 use Rattle.record_memory.specs.declared.books.Standing.TheVariants.{Handing, Own, Spare, TakenOut, Limbo, Free, Spent}
@@ -16,7 +12,7 @@ use Rattle.row_words.specs.Refs.{RefParts}
 use Rattle.row_words.specs.declared.links.Chain.{Chain}
 use Rattle.limbo_bags.specs.Chains.{IsKept}
 use Rattle.limbo_bags.proofs.Chains.{chain_kept}
-use Rattle.record_rule.specs.Facts.{At, CoverFacts}
+use Rattle.record_rule.specs.Facts.{CoverFacts}
 use Rattle.record_rule.specs.Guards.{started_if}
 use Rattle.record_rule.specs.Kinds.{share_in, is_idle_as, is_idle, idle}
 use Rattle.record_rule.proofs.Lists.{counts_same}
@@ -152,23 +148,3 @@ goes_on c g h e = record { first = false; moment = record { epoch = 0; taken_out
 -- no step adds none
 pub same_adds : (b c : Book) → c ≡ b → AddsSteps b c
 same_adds b c e = ([], ap (λ (x : Book). x.steps) e ∙ sym (append-nil b.steps))
-
--- a pass whose guard, notes and sight of the updates stay holds what it held
-pub keeps_held : {S R : Type 0} (p q : Pass S R) → since q ≡ since p → (view q).setup ≡ (view p).setup → (view q).own.guard ≡ (view p).own.guard → (view q).own.notes ≡ (view p).own.notes → (view q).seen_updates ≡ (view p).seen_updates → KeepsHeld p q
-keeps_held p q began setup guard notes noted = record {
-  holds = λ h there. record {
-    started = subst (λ (x : View × Guard). length x.0.own.steps < x.1.start_step) (λ k. (sym began k, sym guard k)) there.started;
-    within = subst (λ (x : Setup). h.target.index ≤ x.records) (sym setup) there.within;
-    holds = subst (λ (g : Guard). At g.holds h.place (Some h.target)) (sym guard) there.holds;
-  };
-  notes = notes;
-  noted = ([], noted ∙ sym (append-nil (view p).seen_updates));
-}
-
--- what is held through two calls
-pub held_then : {S R : Type 0} (p q r : Pass S R) → KeepsHeld p q → KeepsHeld q r → KeepsHeld p r
-held_then p q r a b = record {
-  holds = λ h there. b.holds h (a.holds h there);
-  notes = b.notes ∙ a.notes;
-  noted = (a.noted.0 ++ b.noted.0, b.noted.1 ∙ ap (λ l. l ++ b.noted.0) a.noted.1 ∙ append_assoc (view p).seen_updates a.noted.0 b.noted.0);
-}

@@ -14,7 +14,7 @@ ghost use Rattle.record_table.specs.declared.nodes.Node.{Node};
 ghost use Rattle.reclaim_api.specs.Chained.{IsChainOf};
 ghost use Rattle.reclaim_api.specs.Guarding.{IsInside, Enters, Leaves};
 ghost use Rattle.reclaim_api.specs.Frames.{SamePart, AddsSteps, FreesInto, LeavesRest, LeavesRestBut, LeavesRecords};
-ghost use Rattle.reclaim_api.specs.Holds.{HasReached, HoldsElse, KeepsHeld};
+ghost use Rattle.reclaim_api.specs.Holds.{IsElsewhere, HasReached, KeepsElse, KeepsHeld};
 ghost use Rattle.reclaim_api.specs.declared.holding.Holding.{Holding};
 
 use crate::holding::Holding;
@@ -96,13 +96,14 @@ pub trait Scheme: Cover {
         ensures inside { IsInside pass.new }
         ensures local { is_local local.new (view pass.new) }
         ensures rest { LeavesRecords (view pass.old) (view pass.new) }
-        ensures held { KeepsHeld pass.old pass.new }
+        ensures keeps { KeepsHeld pass.old pass.new }
         ensures fits { result < 2 ^ 44 }
         ensures allowed { Self.facts.births (view pass.new).own.guard result }
         ensures does { bears (setup_of table.now) (view pass.old).own result (view pass.new).own };
 
-    /// Tries to hold, at `place`, what the link of `from` leads to. `place` is below `PLACES`, and `field`
-    /// is 3, the word that holds a set's link. Where the answer isn't `Held`, the place holds nothing.
+    /// Tries to hold, at `place`, what the link of `from` leads to. `place` is below `PLACES` and isn't
+    /// the place of `from`, and `field` is 3, the word that holds a set's link. Where the answer isn't
+    /// `Held`, the place holds nothing.
     fn reach<S: Shape>(
         table: &Table<S, Self>,
         pass: &mut Pass<S, Self>,
@@ -116,6 +117,7 @@ pub trait Scheme: Cover {
         requires local { is_local local.old (view pass.old) }
         requires place { place < PLACES }
         requires from { HoldsNode pass.old from }
+        requires elsewhere { IsElsewhere (origin from) place }
         requires field { field ≡ 3 }
         requires link { S.facts.may_hold (near_of (view pass.old) (origin from)) 3 }
         ensures pass { IsSamePass pass.old pass.new }
@@ -123,7 +125,7 @@ pub trait Scheme: Cover {
         ensures local { is_local local.new (view pass.new) }
         ensures rest { LeavesRecords (view pass.old) (view pass.new) }
         ensures reached { HasReached S.facts place (origin from) pass.old result pass.new }
-        ensures others { HoldsElse place pass.old pass.new }
+        ensures keeps { KeepsElse place pass.old pass.new }
         ensures does { reaches (setup_of table.now) place from field (view pass.old).own result (view pass.new).own };
 
     /// Retires a record that this caller took out: it comes into its limbo. Records of its limbo may
@@ -146,7 +148,7 @@ pub trait Scheme: Cover {
         ensures free { IsChainOf Free (view pass.new) free.new }
         ensures frees { FreesInto (view pass.old) free.old result (view pass.new) free.new }
         ensures rest { LeavesRestBut taken.index (view pass.old) (view pass.new) }
-        ensures held { KeepsHeld pass.old pass.new }
+        ensures keeps { KeepsHeld pass.old pass.new }
         ensures does { puts_away (setup_of table.now) (view pass.old).own taken result (view pass.new).own };
 
     // Whether a local part is this caller's depends on its guard and on its records in limbo alone, and a guard may

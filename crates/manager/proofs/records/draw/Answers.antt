@@ -1,11 +1,12 @@
 use Rattle.std.proofs.Common.{ap, ◌∙◌}
 use Rattle.record_memory.specs.declared.books.Setup.{Setup}
 use Rattle.record_memory.specs.declared.books.View.{View}
-use Rattle.record_memory.specs.declared.books.Standing.TheVariants.{Spare, Free}
+use Rattle.record_memory.specs.declared.books.Standing.TheVariants.{Own, Spare, Free}
 use Rattle.record_table.specs.Handles.{view}
 use Rattle.reclaim_api.proofs.Kept.{chain_stays}
 use Rattle.manager.proofs.Stay.{inside_after, chains_after}
 use Rattle.manager.proofs.Drawing.{draws_limbo, draws_stay, draws_idle, draws_makes}
+use Rattle.manager.proofs.Owns.{owns_stay}
 use Rattle.manager.proofs.records.draw.Goals as goal
 
 pub returns-clause-made : goal.returns-clause-made
@@ -19,3 +20,6 @@ returns-clause-caller g c = let a = c.args.caller.now in let q = c.draw.new.pass
       (chain_stays Spare v w records (draws_stay v w c.draw.result e.new e.rest Spare) a.spare h.chains.spares)
       (draws_idle v w c.draw.result e.new e.rest ∙ h.chains.all);
 }
+
+pub returns-clause-owns : goal.returns-clause-owns
+returns-clause-owns g c = let e = c.draw.ensures in owns_stay _ _ (ap (λ (k : Setup). k.records) e.pass.setup) (draws_stay (view c.args.caller.now.pass) (view c.draw.new.pass) c.draw.result e.new e.rest Own)

@@ -4,7 +4,7 @@ use Rattle.record_pieces.specs.Manners.{Manner}
 use Rattle.record_pieces.specs.Events.{Gets, Takes, from_spare, handed}
 use Rattle.row_words.specs.Refs.{RefParts}
 use Rattle.reclaim_api.specs.Holds.{KeepsHeld}
-use Rattle.reclaim_api.proofs.Kept.{held_then}
+use Rattle.reclaim_api.proofs.Keeping.{held_then}
 use Rattle.manager.specs.Manners.{manner}
 use Rattle.manager.proofs.Stay.{keeps_after, answers_after}
 use Rattle.manager.proofs.records.fresh.Goals as goal
@@ -12,8 +12,8 @@ use Rattle.manager.proofs.records.fresh.Goals as goal
 pub returns-in-Some-clause-did : goal.returns-in-Some-clause-did
 returns-in-Some-clause-did g c = from_spare c.in-Some.ensures.made.0 c.in-Some.ensures.made.1.appended
 
-pub returns-in-Some-clause-held : goal.returns-in-Some-clause-held
-returns-in-Some-clause-held g c = keeps_after _ _ c.take_spare.ensures.pass _ c.in-Some.ensures.made.1
+pub returns-in-Some-clause-keeps : goal.returns-in-Some-clause-keeps
+returns-in-Some-clause-keeps g c = keeps_after _ _ c.take_spare.ensures.pass _ c.in-Some.ensures.made.1
 
 pub returns-in-Some-clause-answers : goal.returns-in-Some-clause-answers
 returns-in-Some-clause-answers g c = answers_after _ _ c.take_spare.ensures.pass _ c.in-Some.ensures.made.1
@@ -24,6 +24,6 @@ returns-clause-did g c = let k = setup_of c.args.table.now in let h = c.hand_out
     let gets = subst (λ x. Gets m k (view x.pass).own c.in_ok-r.r (view c.take_next.new.caller.pass).own) c.in_default.ensures.none.0 c.in_ok-r.ensures.did in
     subst (λ (z : RefParts). Takes m k b z w) (sym c.hand_out.ensures.record) (handed _ h.0 h.1 gets h.2 h.3)
 
-pub returns-clause-held : goal.returns-clause-held
-returns-clause-held g c = let m = c.take_next.ensures.made in
-    subst (λ x. KeepsHeld x.pass c.hand_out.new.caller.pass) c.in_default.ensures.none.0 (held_then c.take_spare.new.caller.pass c.take_next.new.caller.pass c.hand_out.new.caller.pass (keeps_after c.take_spare.new.caller.pass c.take_next.new.caller.pass c.take_next.ensures.pass m.0 m.1) c.hand_out.ensures.held)
+pub returns-clause-keeps : goal.returns-clause-keeps
+returns-clause-keeps g c = let m = c.take_next.ensures.made in
+    subst (λ x. KeepsHeld x.pass c.hand_out.new.caller.pass) c.in_default.ensures.none.0 (held_then c.take_spare.new.caller.pass c.take_next.new.caller.pass c.hand_out.new.caller.pass (keeps_after c.take_spare.new.caller.pass c.take_next.new.caller.pass c.take_next.ensures.pass m.0 m.1) c.hand_out.ensures.keeps)

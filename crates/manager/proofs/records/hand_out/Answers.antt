@@ -2,15 +2,17 @@ use Rattle.std.proofs.Common.{ap, sym, subst, ◌∙◌, List}
 use Rattle.record_memory.specs.declared.books.View.{View}
 use Rattle.record_memory.specs.declared.books.Setup.{Setup}
 use Rattle.record_memory.specs.declared.steps.Step.{Step}
-use Rattle.record_memory.specs.declared.books.Standing.TheVariants.{Spare, Free}
+use Rattle.record_memory.specs.declared.books.Standing.TheVariants.{Own, Spare, Free}
 use Rattle.record_table.specs.Handles.{view}
 use Rattle.record_rule.specs.Kinds.{idle}
 use Rattle.record_rule.specs.Makes.{Makes}
 use Rattle.record_rule.proofs.Makes.{handed_makes, handed_idle}
 use Rattle.record_rule.specs.HandingOut.{HasDrawn}
-use Rattle.reclaim_api.proofs.Kept.{chain_stays, held_then}
+use Rattle.reclaim_api.proofs.Kept.{chain_stays}
 use Rattle.manager.proofs.Stay.{chains_stay, inside_after, keeps_after, chains_after, answers_after}
 use Rattle.manager.proofs.Handed.{still_drawn, handed_limbo, handed_stay}
+use Rattle.reclaim_api.proofs.Keeping.{held_then}
+use Rattle.manager.proofs.Owns.{owns_mine, owns_stay}
 use Rattle.manager.proofs.records.hand_out.Goals as goal
 
 pub hand_out-requires-clause-drawn : goal.hand_out-requires-clause-drawn
@@ -35,9 +37,13 @@ returns-clause-caller g c = let a = c.args.caller.now in let b = c.birth-birth.e
           (ap (λ (x : View). idle x.own) e.steps ∙ handed_idle v r n d ∙ mid.all);
     }
 
-pub returns-clause-held : goal.returns-clause-held
-returns-clause-held g c = let a = c.args.caller.now in let q = c.birth-birth.new.pass in let z = c.hand_out.new.pass in let m = made g c in held_then a.pass q z c.birth-birth.ensures.held (keeps_after q z c.hand_out.ensures.pass m.0 m.1)
+pub returns-clause-keeps : goal.returns-clause-keeps
+returns-clause-keeps g c = let a = c.args.caller.now in let q = c.birth-birth.new.pass in let z = c.hand_out.new.pass in let m = made g c in held_then a.pass q z c.birth-birth.ensures.keeps (keeps_after q z c.hand_out.ensures.pass m.0 m.1)
 
 pub returns-clause-answers : goal.returns-clause-answers
 returns-clause-answers g c = let q = c.birth-birth.new.pass in let z = c.hand_out.new.pass in let m = made g c in let x = answers_after q z c.hand_out.ensures.pass m.0 m.1 in let b = c.birth-birth.ensures.rest in
     record { answered = x.answered ∙ b.answered; front = x.front ∙ b.front }
+
+pub returns-clause-owns : goal.returns-clause-owns
+returns-clause-owns g c r own = let q = c.birth-birth.new.pass in let z = c.hand_out.new.pass in let b = c.birth-birth.ensures in let e = c.hand_out.ensures in
+    owns_stay (view q) (view z) (ap (λ (k : Setup). k.records) e.pass.setup) (handed_stay (view q) (view z) c.args.r c.birth-birth.result (drawn g c) e.steps Own tt) r (owns_mine _ (view q) (ap (λ (k : Setup). k.records) b.pass.setup) b.rest.mine r own)

@@ -4,7 +4,7 @@ use Rattle.row_words.specs.Refs.{RefParts, IsRef}
 use Rattle.row_words.specs.declared.links.Chain.{Chain}
 use Rattle.record_table.specs.Handles.{view}
 use Rattle.manager.proofs.Stay.{inside_after, chains_after}
-use Rattle.manager.proofs.Spares.{room_for, pushed_makes, pushed_limbo, pushed_free, pushed_list}
+use Rattle.manager.proofs.Spares.{room_for, pushed_makes, pushed_limbo, pushed_free, pushed_owns, pushed_list}
 use Rattle.manager.proofs.records.set_spare.Goals as goal
 
 pub overflow_add-caller : goal.overflow_add-caller
@@ -27,3 +27,9 @@ returns-clause-made g c = let a = c.args.caller.now in let q = c.set_aside-r.new
     let after : Chain = record { head = Some c.set_aside-r.result; count = a.spare.count + 1 } in
     let ref : IsRef c.args.own = subst IsRef (c.r.view_is ∙ e.record) c.r.invariant in let head : after.head ≡ Some c.args.own = ap (λ (z : RefParts). Some z) e.record in
     (_, _, pushed_makes v w a.spare after c.args.own c.requires.own.0 c.requires.caller.chains.spares c.requires.own.1 ref e.step head refl)
+
+pub returns-clause-owns : goal.returns-clause-owns
+returns-clause-owns g c = let a = c.args.caller.now in let v : View = view a.pass in let w : View = view c.set_aside-r.new.pass in let e = c.set_aside-r.ensures in
+    let after : Chain = record { head = Some c.set_aside-r.result; count = a.spare.count + 1 } in
+    let ref : IsRef c.args.own = subst IsRef (c.r.view_is ∙ e.record) c.r.invariant in let head : after.head ≡ Some c.args.own = ap (λ (z : RefParts). Some z) e.record in
+    pushed_owns v w a.spare after c.args.own c.requires.own.0 c.requires.caller.chains.spares c.requires.own.1 ref e.step head refl

@@ -1,7 +1,7 @@
 use Rattle.std.proofs.Common.{ap, subst, get_or, None, ◌∙◌, arith}
 use Rattle.record_memory.specs.declared.books.View.{View}
 use Rattle.record_memory.specs.declared.books.Setup.{Setup}
-use Rattle.record_memory.specs.declared.books.Standing.TheVariants.{Free, Spare}
+use Rattle.record_memory.specs.declared.books.Standing.TheVariants.{Own, Free, Spare}
 use Rattle.record_table.specs.Handles.{view}
 use Rattle.record_rule.proofs.Makes.{idle_mine}
 use Rattle.pool.specs.Calls.{Takes}
@@ -10,6 +10,7 @@ use Rattle.reclaim_api.proofs.Kept.{chain_stays}
 use Rattle.manager.proofs.Empty.{none_in}
 use Rattle.manager.proofs.Stay.{mine_stays, inside_after, chains_after}
 use Rattle.manager.proofs.Gaining.{gained_stays, gained_limbo, gained_idle}
+use Rattle.manager.proofs.Owns.{owns_mine, owns_stay}
 use Rattle.manager.proofs.records.take_chain.Goals as goal
 
 pub returns-in-Some-clause-caller : goal.returns-in-Some-clause-caller
@@ -31,3 +32,11 @@ returns-in-None-clause-caller g c = let a = c.args.caller.now in let q = c.take.
           (chain_stays Spare v w records (mine_stays Spare v w t.answer.0) a.spare h.chains.spares)
           (idle_mine v w t.answer.0 ∙ h.chains.all);
     }
+
+pub returns-in-Some-clause-owns : goal.returns-in-Some-clause-owns
+returns-in-Some-clause-owns g c = let v : View = view c.args.caller.now.pass in let w : View = view c.take.new.pass in let e = c.take.ensures in let t = subst (Takes g.P.Pool.SHELVES g.P.Pool.busy v w) c.in-Some.is e.takes in
+    owns_stay v w (ap (λ (k : Setup). k.records) e.pass.setup) (gained_stays v w c.in-Some.chain t.answer.0 t.answer.1 Own)
+
+pub returns-in-None-clause-owns : goal.returns-in-None-clause-owns
+returns-in-None-clause-owns g c = let v : View = view c.args.caller.now.pass in let w : View = view c.take.new.pass in let e = c.take.ensures in let t = subst (Takes g.P.Pool.SHELVES g.P.Pool.busy v w) c.in-None.is e.takes in
+    owns_mine v w (ap (λ (k : Setup). k.records) e.pass.setup) t.answer.0

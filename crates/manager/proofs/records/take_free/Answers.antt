@@ -7,7 +7,7 @@ use Rattle.record_rule.specs.Makes.{Makes}
 use Rattle.record_table.specs.Handles.{view}
 use Rattle.manager.proofs.Stay.{inside_after, chains_after}
 use Rattle.manager.proofs.Pops.{pop_count}
-use Rattle.manager.proofs.Takings.{first_free, again_makes, again_limbo, again_spare, again_rest}
+use Rattle.manager.proofs.Takings.{first_free, again_makes, again_limbo, again_spare, again_owns, again_rest}
 use Rattle.manager.proofs.records.take_free.Goals as goal
 
 pub take_free-r-requires-clause-free : goal.take_free-r-requires-clause-free
@@ -29,3 +29,8 @@ pub returns-clause-made : goal.returns-clause-made
 returns-clause-made g c = let a = c.args.caller.now in let v : View = view a.pass in let w : View = view c.take_free-r.new.pass in let r = c.in_ok-first.first in let e = c.take_free-r.ensures in let n : ℕ = get_or e.step.row 1 0 in
     let after : Chain = record { head = c.take_free-r.result.1; count = a.free.count - 1 } in
     (n, subst (λ (i : ℕ). Makes v w (field_load v i 1 n ∷ [])) (sym e.index) (again_makes v w a.free after r c.requires.caller.chains.frees c.in_ok-first.was e.step e.next refl))
+
+pub returns-clause-owns : goal.returns-clause-owns
+returns-clause-owns g c = let a = c.args.caller.now in let v : View = view a.pass in let w : View = view c.take_free-r.new.pass in let r = c.in_ok-first.first in let e = c.take_free-r.ensures in
+    let after : Chain = record { head = c.take_free-r.result.1; count = a.free.count - 1 } in
+    again_owns v w a.free after r c.requires.caller.chains.frees c.in_ok-first.was e.step e.next refl

@@ -40,3 +40,6 @@ returns-clause-did g c = let k = setup_of c.args.table.now in let u : View = vie
     let same = c.in_default.ensures.none.0 in
     let some = subst (λ x. takes_by g.P.Pool.SHELVES g.P.Pool.busy k (view x.pass).own true u.own) same (took_some g.P.Pool.SHELVES g.P.Pool.busy k (view c.take_free.new.caller.pass) u c.take_free.ensures.of.setup _ (c.take_chain.ensures.some c.if-not-take_chain.false)) in
     from_pool u.own c.in-Some-take_free.ensures.made.0 _ some c.in-Some-take_free.ensures.made.1.appended
+
+pub returns-clause-owns : goal.returns-clause-owns
+returns-clause-owns g c r own = c.in-Some-take_free.ensures.owns r (c.take_chain.ensures.owns r (c.take_free.ensures.owns r own))

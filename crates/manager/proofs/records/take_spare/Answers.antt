@@ -8,7 +8,7 @@ use Rattle.record_table.specs.Handles.{view}
 use Rattle.record_pieces.specs.Events.{own_load}
 use Rattle.manager.proofs.Stay.{inside_after, chains_after}
 use Rattle.manager.proofs.Pops.{row_next, pop_count}
-use Rattle.manager.proofs.Takings.{spare_as, first_spare, taken_makes, taken_limbo, taken_free, taken_rest}
+use Rattle.manager.proofs.Takings.{spare_as, first_spare, taken_makes, taken_limbo, taken_free, taken_owns, taken_rest}
 use Rattle.record_memory.specs.declared.books.Standing.TheVariants.{Spare}
 use Rattle.manager.proofs.records.take_spare.Goals as goal
 
@@ -36,3 +36,10 @@ returns-clause-made g c = let a = c.args.caller.now in let q = c.take_spare-own.
     let row : List ℕ = (spare_as v w a.spare after r list head).owns.share.words in let has : HasSpare v r row = first_spare v w a.spare after r list head in
     let next = e.next row has ∙ sym (row_next Spare v w a.spare after r list head) in
     (get_or row 1 0, subst (λ (z : RefParts). Makes v w (own_load v.own z 1 (get_or row 1 0) ∷ [])) (sym e.record) (taken_makes v w a.spare after r list head (get_or row 1 0) (e.step row has) next refl))
+
+pub returns-clause-owns : goal.returns-clause-owns
+returns-clause-owns g c = let a = c.args.caller.now in let v : View = view a.pass in let w : View = view c.take_spare-own.new.pass in let r = c.in_ok-first.first in let e = c.take_spare-own.ensures in
+    let list = c.requires.caller.chains.spares in let head = c.in_ok-first.was in
+    let after : Chain = record { head = c.take_spare-own.result.1; count = a.spare.count - 1 } in
+    let row : List ℕ = (spare_as v w a.spare after r list head).owns.share.words in let has : HasSpare v r row = first_spare v w a.spare after r list head in
+    let next = e.next row has ∙ sym (row_next Spare v w a.spare after r list head) in taken_owns v w a.spare after r list head (get_or row 1 0) (e.step row has) next refl

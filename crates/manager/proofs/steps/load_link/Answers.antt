@@ -1,8 +1,12 @@
 use Rattle.std.proofs.Common.{◌+◌, ap, length}
 use Rattle.record_memory.specs.declared.books.View.{View}
 use Rattle.record_table.specs.Handles.{view}
-use Rattle.record_table.specs.Nodes.{is_first}
 use Rattle.manager.proofs.NodeSteps.{LeavesAll, inside_still, chains_still, leaves_records}
+use Rattle.record_memory.specs.declared.books.Setup.{Setup}
+use Rattle.record_table.specs.Nodes.{origin, is_first}
+use Rattle.reclaim_api.proofs.Keeping.{keeps_load}
+use Rattle.manager.proofs.StepKeeps.{began}
+use Rattle.manager.proofs.Owns.{owns_mine}
 use Rattle.manager.proofs.steps.load_link.Goals as goal
 
 -- what it leaves
@@ -15,3 +19,13 @@ returns-clause-caller g c = let a = c.args.caller.now in let q = c.load_link.new
   inside = inside_still g.R.Scheme.is_local a.pass q same a.local a.free a.spare g.met.R.Scheme.local_stays l c.requires.caller.inside;
   chains = chains_still g.R.Scheme.is_local a.pass q same a.local a.free a.spare g.met.R.Scheme.local_stays l c.requires.caller.chains;
 }
+
+pub returns-clause-keeps : goal.returns-clause-keeps
+returns-clause-keeps g c = let a = c.args.caller.now in let q = c.load_link.new.pass in let same = c.load_link.ensures.pass in
+    keeps_load a.pass q (began a.pass q same) g.S.Shape.facts (origin c.args.node) g.R.Cover.facts _ same.setup c.load_link.ensures.step.2
+
+pub returns-clause-answers : goal.returns-clause-answers
+returns-clause-answers g c = let e = c.load_link.ensures.step.2.view in record { answered = ap (λ (x : View). x.own.answered) e; front = ap (λ (x : View). x.front) e }
+
+pub returns-clause-owns : goal.returns-clause-owns
+returns-clause-owns g c = owns_mine _ _ (ap (λ (k : Setup). k.records) c.load_link.ensures.pass.setup) (ap (λ (x : View). x.own.mine) c.load_link.ensures.step.2.view)

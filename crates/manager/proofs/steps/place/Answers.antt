@@ -3,6 +3,10 @@ use Rattle.record_memory.specs.declared.books.View.{View}
 use Rattle.record_table.specs.Handles.{view}
 use Rattle.reclaim_api.proofs.Kept.{goes_on}
 use Rattle.manager.proofs.NodeSteps.{LeavesAll, inside_still, chains_still, leaves_records}
+use Rattle.record_memory.specs.declared.books.Setup.{Setup}
+use Rattle.reclaim_api.proofs.Keeping.{keeps_same}
+use Rattle.manager.proofs.StepKeeps.{began}
+use Rattle.manager.proofs.Owns.{owns_mine}
 use Rattle.manager.proofs.steps.place.Goals as goal
 
 -- what it leaves
@@ -15,3 +19,10 @@ returns-clause-caller g c = let a = c.args.caller.now in let q = c.place_read.ne
   inside = inside_still g.R.Scheme.is_local a.pass q same a.local a.free a.spare g.met.R.Scheme.local_stays l c.requires.caller.inside;
   chains = chains_still g.R.Scheme.is_local a.pass q same a.local a.free a.spare g.met.R.Scheme.local_stays l c.requires.caller.chains;
 }
+
+pub returns-clause-keeps : goal.returns-clause-keeps
+returns-clause-keeps g c = let a = c.args.caller.now in let q = c.place_read.new.pass in let same = c.place_read.ensures.pass in let e = c.place_read.ensures.placed.3 in
+    keeps_same a.pass q (began a.pass q same) same.setup (ap (λ (x : View). x.own.guard) e) (ap (λ (x : View). x.own.notes) e) (ap (λ (x : View). x.seen_updates) e)
+
+pub returns-clause-owns : goal.returns-clause-owns
+returns-clause-owns g c = owns_mine _ _ (ap (λ (k : Setup). k.records) c.place_read.ensures.pass.setup) (ap (λ (x : View). x.own.mine) c.place_read.ensures.placed.3)

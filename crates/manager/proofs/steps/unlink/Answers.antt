@@ -3,6 +3,7 @@ use Rattle.record_memory.specs.declared.books.Setup.{Setup}
 use Rattle.record_table.specs.Handles.{view}
 use Rattle.record_table.specs.Nodes.{origin}
 use Rattle.manager.proofs.NodeSteps.{LeavesAll, inside_still, chains_still, unlink_leaves}
+use Rattle.manager.proofs.StepKeeps.{unlink_keeps, unlink_answers, unlink_owns}
 use Rattle.manager.proofs.steps.unlink.Goals as goal
 
 -- what it leaves
@@ -14,3 +15,12 @@ returns-clause-caller g c = let a = c.args.caller.now in let q = c.unlink.new.pa
   inside = inside_still g.R.Scheme.is_local a.pass q same a.local a.free a.spare g.met.R.Scheme.local_stays l c.requires.caller.inside;
   chains = chains_still g.R.Scheme.is_local a.pass q same a.local a.free a.spare g.met.R.Scheme.local_stays l c.requires.caller.chains;
 }
+
+pub returns-clause-keeps : goal.returns-clause-keeps
+returns-clause-keeps g c = unlink_keeps c.args.caller.now.pass c.unlink.new.pass c.unlink.ensures.pass g.S.Shape.facts (origin c.args.node) c.args.gone.target c.args.new c.unlink.result c.unlink.ensures.step
+
+pub returns-clause-answers : goal.returns-clause-answers
+returns-clause-answers g c = unlink_answers c.args.caller.now.pass c.unlink.new.pass c.unlink.ensures.pass g.S.Shape.facts (origin c.args.node) c.args.gone.target c.args.new c.unlink.result c.unlink.ensures.step
+
+pub returns-clause-owns : goal.returns-clause-owns
+returns-clause-owns g c = unlink_owns c.args.caller.now.pass c.unlink.new.pass c.unlink.ensures.pass g.S.Shape.facts (origin c.args.node) c.args.gone.target c.args.new c.unlink.result c.unlink.ensures.step

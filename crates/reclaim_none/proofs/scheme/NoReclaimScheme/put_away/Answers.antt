@@ -6,7 +6,8 @@ use Rattle.row_words.specs.Packing.{packed_number}
 use Rattle.record_rule.specs.Kinds.{idle}
 use Rattle.record_table.specs.Handles.{view}
 use Rattle.reclaim_api.specs.Frames.{LeavesRestBut}
-use Rattle.reclaim_api.proofs.Kept.{Stays, chain_stays, retired_keeps, retired_leaves, retired_idle, keeps_held}
+use Rattle.reclaim_api.proofs.Kept.{Stays, chain_stays, retired_keeps, retired_leaves, retired_idle}
+use Rattle.reclaim_api.proofs.Keeping.{keeps_same}
 use Rattle.reclaim_none.proofs.scheme.NoReclaimScheme.put_away.Goals as goal
 
 pub returns-clause-free : goal.returns-clause-free
@@ -22,6 +23,6 @@ pub returns-clause-frees : goal.returns-clause-frees
 returns-clause-frees g c = let s = c.put_row.ensures.step in let v : View = view c.args.pass.now in
     record { idle = ap (λ (w : View). idle w.own + 0) s.2 ∙ ap (λ (n : ℕ). n + 0) (retired_idle v c.args.taken s.0 (packed_number c.args.taken.generation 0) s.1); count = refl; freed = let e = ap (λ (w : View). w.own.moves.freed) s.2 in omega arith }
 
-pub returns-clause-held : goal.returns-clause-held
-returns-clause-held g c = let s = c.put_row.ensures.step in let same = c.put_row.ensures.pass in
-    keeps_held c.args.pass.now c.put_row.new.pass (ap (λ x. x.value.me.0) same.since) same.setup (ap (λ (w : View). w.own.guard) s.2) (ap (λ (w : View). w.own.notes) s.2) (ap (λ (w : View). w.seen_updates) s.2)
+pub returns-clause-keeps : goal.returns-clause-keeps
+returns-clause-keeps g c = let s = c.put_row.ensures.step in let same = c.put_row.ensures.pass in
+    keeps_same c.args.pass.now c.put_row.new.pass (ap (λ x. x.value.me.0) same.since) same.setup (ap (λ (w : View). w.own.guard) s.2) (ap (λ (w : View). w.own.notes) s.2) (ap (λ (w : View). w.seen_updates) s.2)
