@@ -14,3 +14,6 @@ pub mod Dids
 pub mod Seats
 mod Owns
 mod StepKeeps
+pub mod MoveCounts
+pub mod ChainCounts
+pub mod Sums

@@ -2,7 +2,7 @@ use Rattle.std.proofs.Common.{ap, arith}
 use Rattle.record_memory.specs.declared.books.Setup.{Setup}
 use Rattle.record_table.specs.Handles.{view}
 use Rattle.record_table.specs.Nodes.{origin}
-use Rattle.manager.proofs.NodeSteps.{LeavesAll, inside_still, chains_still, unlink_leaves}
+use Rattle.manager.proofs.NodeSteps.{LeavesAll, inside_still, chains_still, counts_left, unlink_leaves}
 use Rattle.manager.proofs.StepKeeps.{unlink_keeps, unlink_answers, unlink_owns}
 use Rattle.manager.proofs.steps.unlink.Goals as goal
 
@@ -14,6 +14,7 @@ pub returns-clause-caller : goal.returns-clause-caller
 returns-clause-caller g c = let a = c.args.caller.now in let q = c.unlink.new.pass in let same = c.unlink.ensures.pass in let l = leaves g c in record {
   inside = inside_still g.R.Scheme.is_local a.pass q same a.local a.free a.spare g.met.R.Scheme.local_stays l c.requires.caller.inside;
   chains = chains_still g.R.Scheme.is_local a.pass q same a.local a.free a.spare g.met.R.Scheme.local_stays l c.requires.caller.chains;
+  counts = counts_left g.R.Cover.facts _ _ a.moved l c.requires.caller.counts;
 }
 
 pub returns-clause-keeps : goal.returns-clause-keeps
