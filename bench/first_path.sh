@@ -15,12 +15,12 @@ trap 'rm -rf "$work"' EXIT
 # The first run of the script at the root proves and builds the program, and plays a small workload.
 "$root/setbench" play --set plain --reclaimer none <"$root/examples/first.txt" |
     cmp - "$root/examples/first.report.txt"
-rustc --edition 2021 -C opt-level=3 -o "$work/plain_set" "$bench/plain_set.rs"
+rustc --edition 2021 -C opt-level=3 -o "$work/plain" "$bench/plain.rs"
 
 python3 "$bench/make_workload.py" 1000000 1000 >"$work/many_calls.txt"
 python3 "$bench/make_workload.py" 200000 100000 >"$work/many_keys.txt"
 
 proved=("$root/crates/setbench/out/setbench" play --set plain --reclaimer none)
 for workload in many_calls many_keys; do
-    python3 "$bench/compare.py" "$work/$workload.txt" -- "${proved[@]}" -- "$work/plain_set"
+    python3 "$bench/compare.py" "$work/$workload.txt" -- "${proved[@]}" -- "$work/plain" play
 done

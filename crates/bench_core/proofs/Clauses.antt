@@ -1,9 +1,9 @@
 -- What follows, fact by fact, from how a run ends.
-use Rattle.std.proofs.Common.{◌≡◌, ◌≢◌, ℕ, ◌⊎◌, inl, inr, List, [], ◌++◌, length, Option, Some, None, IsSome, IfSome, Bool, true, false, refl, sym, ap, ◌∙◌, subst, arith}
+use Rattle.std.proofs.Common.{◌≡◌, ◌≢◌, ℕ, ◌⊎◌, inl, inr, List, [], ◌∷◌, length, Option, Some, None, IsSome, Bool, true, false, refl, sym, ap, ◌∙◌, subst, arith}
 use Rattle.std.proofs.lemmas.Bool.{false≢true}
 use Rattle.std.proofs.lemmas.Bool.Decides.{eqb_tells}
 use Rattle.command_words.proofs.Commands.{one_command}
-use Rattle.command_words.specs.Commands.{IsCommand}
+use Rattle.command_words.specs.Commands.{IsCommand, Names}
 use Rattle.command_words.specs.declared.command.Command.{Command}
 use Rattle.command_words.specs.declared.command.Command.TheVariants as command
 use Rattle.command_words.specs.declared.command.PlayWords.{PlayWords}
@@ -35,6 +35,8 @@ use Rattle.bench_core.specs.Reading.{Gave, GaveFew, GaveTooMany}
 use Rattle.bench_core.proofs.ReadingLemmas.{Gave-same, GaveAll-is, Gave-length-le}
 use Rattle.bench_core.specs.Sizes.{sizes_of}
 use Rattle.bench_core.specs.Ending.{AreNoCommand, Counts, Ends, Finds, FindsIn, FindsMade, GaveNoWorkload, GaveWorkload, HasParts, HasText, IsAllowed, IsMade, NamesUnlawful, Reads, Tells, has_full, status_with, output_of, run_of, status_of, status_of_run}
+use Rattle.bench_core.specs.Plays.{AreAlone}
+use Rattle.bench_core.proofs.Alone.{alone_found}
 use Rattle.bench_core.proofs.Telling.{status_of_run-is}
 use Rattle.bench_core.proofs.Verdicts.{is_WordsRefused, is_Unlawful, is_ReadFault, is_TooLong, is_WorkloadRefused, is_OutOfMemory}
 
@@ -58,6 +60,10 @@ few-same left before after same = ([], rw same (with_front-nil (left before)), o
 
 abbrev play_words : SetName → ReclaimerName → PlayWords
 play_words set reclaimer = record { set = set; reclaimer = reclaimer; allocator = Bump; buckets = 64; records = None }
+
+not_shared : (words : List (List ℕ)) (chosen : TrialWords) → Names words (command.Trial chosen) → chosen.workload.shared ≡ false
+not_shared [] chosen names = absurd names
+not_shared (first ∷ words) chosen names = names.2.not_shared
 
 full_by : (full : Bool) → status_with full ≡ 5 → full ≡ true
 full_by true is = refl
@@ -512,6 +518,9 @@ module _ {S K : Type 0} {left : S → Option (List ℕ)} {source_faults : S → 
     | inl there ↦ play_run there.0 e.found (done_is is) (of_command (command.Play there.0) there.1)
     | inr there ↦ trial_run there.0 e.found (done_is is) (of_command (command.Trial there.0) there.1)
   ])
+
+  pub alone : (chosen : TrialWords) → IsCommand words (command.Trial chosen) → (run : Run) → ended.run ≡ Some run → has_full run.report.callers ≡ false → AreAlone run.report.callers
+  alone chosen named run is no_full = alone_found left source source' chosen e.found run (not_shared words chosen named.0) (of_command (command.Trial chosen) named) (sym e.concludes.run ∙ is)
 
 -- a text that was made isn't empty
 pub in_text : {S : Type 0} (left : S → Option (List ℕ)) (before after : S) (chosen : Command) (found : Verdict) → FindsIn left before after chosen found → HasText found

@@ -1,3 +1,4 @@
+pub mod Alone
 pub mod Clauses
 pub mod PlainRuns
 pub mod PlayOrder

@@ -63,6 +63,10 @@ pub record AreTold (lists : List (List (List Call))) (replies : List (Vec Reply)
   pub count : length replies ≡ length lists
   pub told : (caller : ℕ) (own : Vec Reply) → slice_get replies caller ≡ Some own → own.items ≡ told_to caller (order_of lists) empty
 
+-- each caller was told what the set machine answers to its calls alone, from no key on
+abbrev pub AreAlone : List Played → Type 0
+AreAlone callers = (caller : ℕ) (played : Played) → slice_get callers caller ≡ Some played → played.replies ≡ replies_of played.calls empty
+
 -- The report is of these calls, played on a plain set phase by phase, and in each phase one caller after another: the
 -- set machine, which starts empty, gives each reply, the number of keys and their sum.
 pub record IsPlainRun (plan : Plan) (report : Report) : Type 0 where

@@ -2,7 +2,7 @@
 ghost use Rattle.std.specs.Prelude.{None};
 
 use super::*;
-use crate::tests::{COMMAND, REPORT, WORKLOAD, makes, run_on, words_of};
+use crate::tests::{COMMAND, makes, run_on, words_of};
 use outside::{FreeGate, MemorySink, Source, Taking};
 use std::test::Fail;
 
@@ -30,48 +30,57 @@ fn reads_and_prints_in_pieces(rt: HostRuntime) -> Result<(), Fail> {
     Ok(())
 }
 
+const TWO_CALLERS: &str =
+    "setbench 1\ncallers 2\ncaller 0\ni 2\ns 2\nr 2\ni 4\ncaller 1\ni 3\nr 5\ns 3\nend\n";
+
+const THEIR_REPORT: &str =
+    "set plain reclaimer none callers 2 calls 7\ncaller 0\ni 2 yes\ns 2 yes\nr 2 yes\ni 4 yes\ncaller 1\ni 3 yes\nr 5 no\ns 3 yes\nsize 2 sum 7\nrecords drawn 0 reused 0 retired 0 freed 0 limbo 0 free 0 spare 0 spent 0\n";
+
+// A source is called twice: it gives the bytes, and ends.
 #[test]
-fn each_put_that_fails_ends_the_run(rt: HostRuntime) -> Result<(), Fail> {
-    let report = REPORT.as_bytes();
-    for puts in 0..100_u32 {
+fn each_take_fails_in_turn(rt: HostRuntime) -> Result<(), Fail> {
+    let bytes = TWO_CALLERS.as_bytes();
+    let rows = [(1, 6, ""), (2, 6, ""), (3, 0, THEIR_REPORT)];
+    for (fails, status, text) in rows {
+        let end = run_on(&rt, rt.alloc(), &COMMAND, bytes, &[fails], 10, &[])?;
+        assert_eq!(rt; end.status, status, "at {fails}");
+        assert_eq!(rt; end.got.as_slice(), text.as_bytes(), "at {fails}");
+        assert_eq!(rt; end.has_run, status == 0, "at {fails}");
+    }
+    Ok(())
+}
+
+#[test]
+fn each_put_fails_in_turn(rt: HostRuntime) -> Result<(), Fail> {
+    let bytes = TWO_CALLERS.as_bytes();
+    let report = THEIR_REPORT.as_bytes();
+    for puts in 0..40_u32 {
         let got = puts as usize * 10;
-        let end = run_on(
-            &rt,
-            rt.alloc(),
-            &COMMAND,
-            WORKLOAD.as_bytes(),
-            &[],
-            10,
-            &[puts + 1],
-        )?;
+        let end = run_on(&rt, rt.alloc(), &COMMAND, bytes, &[], 10, &[puts + 1])?;
         if got < report.len() {
             assert_eq!(rt; end.status, 7, "after {puts}");
             assert_eq!(rt; end.got.len(), got, "after {puts}");
             assert!(rt; report.starts_with(&end.got), "after {puts}");
         } else {
             assert_eq!(rt; end.status, 0, "after {puts}");
+            assert_eq!(rt; end.got.as_slice(), report, "after {puts}");
         }
+        assert!(rt; end.has_run, "after {puts}");
     }
     Ok(())
 }
 
+// The line of a refusal is put in pieces, too.
 #[test]
-fn ends_at_the_first_fault(rt: HostRuntime) -> Result<(), Fail> {
-    let bytes = WORKLOAD.as_bytes();
-    for fails in 1..3 {
-        let end = run_on(&rt, rt.alloc(), &COMMAND, bytes, &[fails], 4096, &[])?;
-        assert_eq!(rt; end.status, 6, "at {fails}");
-        assert_eq!(rt; end.got.as_slice(), b"".as_slice(), "at {fails}");
-        assert!(rt; !end.has_run, "at {fails}");
+fn each_put_of_a_refusal_fails_in_turn(rt: HostRuntime) -> Result<(), Fail> {
+    let line = b"setbench: workload refused: no end\n".as_slice();
+    for puts in 0..4_u32 {
+        let end = run_on(&rt, rt.alloc(), &["check"], b"", &[], 10, &[puts + 1])?;
+        assert_eq!(rt; end.status, 7, "after {puts}");
+        assert_eq!(rt; end.got.len(), puts as usize * 10, "after {puts}");
+        assert!(rt; line.starts_with(&end.got), "after {puts}");
+        assert!(rt; !end.has_run, "after {puts}");
     }
-    let end = run_on(&rt, rt.alloc(), &COMMAND, bytes, &[], 10, &[3])?;
-    assert_eq!(rt; end.status, 7);
-    assert_eq!(rt; end.got.as_slice(), b"set plain reclaimer ".as_slice());
-    assert!(rt; end.has_run);
-    let end = run_on(&rt, rt.alloc(), &COMMAND, b"setbench 2\n", &[], 10, &[2])?;
-    assert_eq!(rt; end.status, 7);
-    assert_eq!(rt; end.got.as_slice(), b"setbench: ".as_slice());
-    assert!(rt; !end.has_run);
     Ok(())
 }
 

@@ -18,4 +18,8 @@ pub use top::setbench;
 #[cfg(test)]
 mod fault_tests;
 #[cfg(test)]
+mod refusal_tests;
+#[cfg(test)]
+mod run_tests;
+#[cfg(test)]
 mod tests;

@@ -16,8 +16,6 @@ pub(crate) const WORKLOAD: &str =
 pub(crate) const REPORT: &str =
     "set plain reclaimer none callers 1 calls 6\ncaller 0\ni 5 yes\ni 5 no\ns 5 yes\nr 5 yes\nr 5 no\ns 5 no\nsize 0 sum 0\nrecords drawn 0 reused 0 retired 0 freed 0 limbo 0 free 0 spare 0 spent 0\n";
 
-const WORDS_LINE: &str = "setbench: words refused\n";
-
 pub(crate) fn words_of(alloc: Global, words: &[&str]) -> Result<Vec<String>, AllocError> {
     let mut all = Vec::new(alloc);
     for word in words {
@@ -159,35 +157,6 @@ fn plays_phase_by_phase(rt: HostRuntime) -> Result<(), Fail> {
 }
 
 #[test]
-fn unlawful_pairs_read_nothing(rt: HostRuntime) -> Result<(), Fail> {
-    let rows = [
-        (
-            "lazy",
-            "hazard",
-            "setbench: lazy under hazard is not lawful\n",
-        ),
-        (
-            "lazy",
-            "2geibr",
-            "setbench: lazy under 2geibr is not lawful\n",
-        ),
-        (
-            "plain",
-            "debra",
-            "setbench: plain under debra is not lawful\n",
-        ),
-    ];
-    for (set, reclaimer, line) in rows {
-        let words = ["play", "--set", set, "--reclaimer", reclaimer];
-        // A source that fails at its first call would be noticed.
-        let end = run_on(&rt, rt.alloc(), &words, b"", &[1], 4096, &[])?;
-        assert_eq!(rt; end.status, 4, "{set} {reclaimer}");
-        assert_eq!(rt; end.got.as_slice(), line.as_bytes(), "{set} {reclaimer}");
-    }
-    Ok(())
-}
-
-#[test]
 fn other_commands(rt: HostRuntime) -> Result<(), Fail> {
     let alloc = rt.alloc();
     let end = run_on(&rt, alloc, &["check"], PHASES.as_bytes(), &[], 4096, &[])?;
@@ -263,52 +232,6 @@ fn makes_and_plays_workloads(rt: HostRuntime) -> Result<(), Fail> {
         assert_eq!(rt; end.status, 0, "at {numbers:?}");
         assert_eq!(rt; end.has_run, trial, "at {numbers:?}");
         assert_eq!(rt; end.got.as_slice(), text.as_bytes(), "at {numbers:?}");
-    }
-    Ok(())
-}
-
-#[test]
-fn refuses_other_words(rt: HostRuntime) -> Result<(), Fail> {
-    let cases: [&[&str]; 5] = [
-        &[],
-        &["play"],
-        &["play", "--set", "plain"],
-        &["play", "--set", "michael", "--reclaimer", "none"],
-        &["play", "--set", "plain", "--reclaimer", "none", "--shared"],
-    ];
-    for words in cases {
-        let end = run_on(&rt, rt.alloc(), words, WORKLOAD.as_bytes(), &[1], 4096, &[])?;
-        assert_eq!(rt; end.status, 2, "at {words:?}");
-        assert_eq!(rt; end.got.as_slice(), WORDS_LINE.as_bytes(), "at {words:?}");
-        assert!(rt; !end.has_run, "at {words:?}");
-        let end = run_on(&rt, rt.alloc(), words, WORKLOAD.as_bytes(), &[], 4096, &[1])?;
-        assert_eq!(rt; end.status, 7, "at {words:?}");
-    }
-    Ok(())
-}
-
-#[test]
-fn refuses_what_is_no_workload(rt: HostRuntime) -> Result<(), Fail> {
-    let cases = [
-        ("setbench 3\n", "line 1: header"),
-        ("setbench 1\ncallers 65\n", "line 2: callers"),
-        (
-            "setbench 1\ncallers 1\ncaller 0\ni 05\nend\n",
-            "line 4: bad line",
-        ),
-        (
-            "setbench 1\ncallers 1\ncaller 0\ni 1099511627774\nend\n",
-            "line 4: key out of range",
-        ),
-        ("setbench 1\ncallers 1\ncaller 0\ni 5\n", "no end"),
-        ("", "no end"),
-    ];
-    for (text, cause) in cases {
-        let end = run_on(&rt, rt.alloc(), &COMMAND, text.as_bytes(), &[], 4096, &[])?;
-        let line = format!(in rt.alloc(); "setbench: workload refused: {cause}\n")?;
-        assert_eq!(rt; end.status, 3, "at {text}");
-        assert_eq!(rt; end.got.as_slice(), line.as_bytes(), "at {text}");
-        assert!(rt; !end.has_run, "at {text}");
     }
     Ok(())
 }

@@ -1,8 +1,9 @@
 // The program, from its words and its source to its sink and its status.
-ghost use Rattle.std.specs.Prelude.{◌≡◌, ◌≢◌, ◌↔◌, ◌⊎◌, ℕ, true, List, [], Some, IsSome};
+ghost use Rattle.std.specs.Prelude.{◌≡◌, ◌≢◌, ◌↔◌, ◌⊎◌, ℕ, true, List, [], Some, IsSome, false};
 ghost use Rattle.command_words.specs.Commands.{IsCommand};
 ghost use Rattle.command_words.specs.Words.{texts_of};
 ghost use Rattle.command_words.specs.declared.command.Command.TheVariants as command;
+ghost use Rattle.command_words.specs.declared.command.TrialWords.{TrialWords};
 ghost use Rattle.command_words.specs.declared.command.Workloads.{Workloads};
 ghost use Rattle.lawful_pairs.specs.declared.Unlawful.{Unlawful};
 ghost use Rattle.outside.specs.Faults.{Rose, one_more};
@@ -14,6 +15,7 @@ ghost use Rattle.workload_text.specs.Limits.{Plan};
 ghost use Rattle.workload_text.specs.Text.{text_of};
 ghost use Rattle.bench_core.specs.Clauses.{AreAllowed, AreNotRead, AreRead, AreUnlawful, ArePlayed, GaveRefused, GaveSomeWorkload, HoldsWorkload, IsDone, IsQuiet, IsRunOf, IsStopped, NamesPair};
 ghost use Rattle.bench_core.specs.Ending.{AreNoCommand, Ends, Finds, GaveNoWorkload, GaveWorkload, IsMade, has_full, output_of, run_of};
+ghost use Rattle.bench_core.specs.Plays.{AreAlone};
 ghost use Rattle.bench_core.specs.Reading.{GaveTooMany};
 ghost use Rattle.bench_core.specs.Sizes.{sizes_of};
 ghost use Rattle.bench_core.specs.declared.ending.Run.{Run};
@@ -78,6 +80,9 @@ pub fn setbench<T: Threads + Wait + Sync, S: Source, K: Sink, G: Gate + Sync>(
         × (text : List ℕ) × IsRunOf S.left source.old source.new (texts_of words.now) run text
         × (result.status ≢ 7 → Wrote K.got sink.old sink.new text)
         × (result.status ≡ 7 → WrotePart K.got sink.old sink.new text) }
+    // The callers of a trial share no key, so where none is told `full` each is told what it would be told alone.
+    ensures alone { (chosen : TrialWords) → IsCommand (texts_of words.now) (command.Trial chosen)
+        → (run : Run) → result.run ≡ Some run → has_full run.report.callers ≡ false → AreAlone run.report.callers }
     ensures full { (result.status ≡ 5) ↔ ((run : Run) × (result.run ≡ Some run)
         × (has_full run.report.callers ≡ true) × (result.status ≢ 7)) }
 

@@ -11,7 +11,8 @@ use Rattle.set_model.specs.declared.names.SetName.{SetName}
 use Rattle.set_model.specs.declared.names.SetName.TheVariants.{Plain, Michael, Lazy}
 use Rattle.command_words.specs.Commands.{AreRecords, IsMade, IsPlay}
 use Rattle.command_words.specs.Options.{Gives, GivesOr, HasNamesOnce}
-use Rattle.command_words.specs.Words.{set_word, reclaimer_word, allocator_word, answer_word}
+use Rattle.text_lines.specs.Names.{set_word, reclaimer_word}
+use Rattle.command_words.specs.Words.{allocator_word, answer_word}
 use Rattle.command_words.specs.declared.command.PlayWords.{PlayWords}
 use Rattle.command_words.specs.declared.command.Workloads.{Workloads}
 use Rattle.command_words.proofs.Pairs.{Gives-one}

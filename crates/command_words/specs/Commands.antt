@@ -16,7 +16,8 @@ use Rattle.command_words.specs.declared.command.PlayWords.{PlayWords}
 use Rattle.command_words.specs.declared.command.TrialWords.{TrialWords}
 use Rattle.command_words.specs.declared.command.Workloads.{Workloads}
 use Rattle.command_words.specs.Options.{ArePairs, Gives, GivesOr, GivesMaybe}
-use Rattle.command_words.specs.Words.{mode_word, names_of, set_word, reclaimer_word, allocator_word, answer_word}
+use Rattle.command_words.specs.Words.{mode_word, names_of, allocator_word, answer_word}
+use Rattle.text_lines.specs.Names.{set_word, reclaimer_word}
 
 -- the pairs name this number of records, or none
 abbrev pub AreRecords : List (List ℕ) → Option ℕ → Type 0

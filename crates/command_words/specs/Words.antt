@@ -5,10 +5,6 @@ use Rattle.std.specs.Global.{Global}
 use Rattle.std.specs.String.{string_bytes}
 use Rattle.set_model.specs.declared.names.AllocatorName.{AllocatorName}
 use Rattle.set_model.specs.declared.names.AllocatorName.TheVariants.{Bump, Once}
-use Rattle.set_model.specs.declared.names.ReclaimerName.{ReclaimerName}
-use Rattle.set_model.specs.declared.names.ReclaimerName.TheVariants.{Nothing, Debra, Hazard, Ibr}
-use Rattle.set_model.specs.declared.names.SetName.{SetName}
-use Rattle.set_model.specs.declared.names.SetName.TheVariants.{Plain, Michael, Lazy}
 use Rattle.command_words.specs.declared.command.Mode.{Mode}
 use Rattle.command_words.specs.declared.command.Mode.TheVariants.{Play, Check, Generate, Trial}
 
@@ -28,17 +24,6 @@ names_of Play = codes "--set" ∷ codes "--reclaimer" ∷ codes "--allocator" �
 names_of Check = []
 names_of Generate = codes "--callers" ∷ codes "--calls" ∷ codes "--keys" ∷ codes "--seed" ∷ codes "--shared" ∷ []
 names_of Trial = codes "--set" ∷ codes "--reclaimer" ∷ codes "--callers" ∷ codes "--calls" ∷ codes "--keys" ∷ codes "--seed" ∷ []
-
-abbrev pub set_word : SetName → List ℕ
-set_word Plain = codes "plain"
-set_word Michael = codes "michael"
-set_word Lazy = codes "lazy"
-
-abbrev pub reclaimer_word : ReclaimerName → List ℕ
-reclaimer_word Nothing = codes "none"
-reclaimer_word Debra = codes "debra"
-reclaimer_word Hazard = codes "hazard"
-reclaimer_word Ibr = codes "2geibr"
 
 abbrev pub allocator_word : AllocatorName → List ℕ
 allocator_word Bump = codes "bump"

@@ -7,7 +7,8 @@ ghost use Rattle.set_model.specs.declared.names.ReclaimerName.{ReclaimerName};
 ghost use Rattle.set_model.specs.declared.names.SetName.{SetName};
 ghost use Rattle.command_words.specs.Options.{Gives, GivesOr, HasNamesOnce};
 ghost use Rattle.command_words.specs.Commands.{AreRecords};
-ghost use Rattle.command_words.specs.Words.{allocator_word, answer_word, reclaimer_word, set_word, texts_of};
+ghost use Rattle.text_lines.specs.Names.{reclaimer_word, set_word};
+ghost use Rattle.command_words.specs.Words.{allocator_word, answer_word, texts_of};
 
 use crate::options::value_of;
 use set_model::{AllocatorName, ReclaimerName, SetName};

@@ -63,7 +63,8 @@ same_cell : (d i : ℕ) (old new : SchemeCell) → IsFreed (λ n. false) d i old
 same_cell d i old _ (goes generation b n stamp r is free) = let none : ⊥ = cc in absurd none
 same_cell d i old _ (stays k) = refl
 
-kept_there : (cells cells' : List SchemeCell) (d : ℕ) → FreedCells (λ n. false) d cells cells' → (t : RefParts) (k : ℕ) → (cell : SchemeCell) × (0 < t.index) × At cells (t.index - 1) cell × IsThereAs cell t.generation k → (cell : SchemeCell) × (0 < t.index) × At cells' (t.index - 1) cell × IsThereAs cell t.generation k
+kept_there : (cells cells' : List SchemeCell) (d : ℕ) → FreedCells (λ n. false) d cells cells' → (t : RefParts) (k : ℕ) → (cell : SchemeCell) × (0 < t.index) × At cells (t.index - 1) cell × IsThereAs cell t.generation k
+    → (cell : SchemeCell) × (0 < t.index) × At cells' (t.index - 1) cell × IsThereAs cell t.generation k
 kept_there cells cells' d f t k h = let y = at_below cells' (t.index - 1) (let l = below_at cells (t.index - 1) h.0 h.2 in let m = f.many in omega arith) in let x = f.each (t.index - 1) y.0 y.1 in
     (h.0, h.1, y.1 ∙ ap some (same_cell d (t.index - 1) x.0 y.0 x.2 ∙ one_at cells (t.index - 1) x.0 h.0 x.1 h.2), h.3)
 

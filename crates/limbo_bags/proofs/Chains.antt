@@ -47,7 +47,8 @@ rows_apart old new r refs o a =
     All-weaker (λ q. q.index ≢ r.index) (λ q. new q ≡ old q) (λ q n. o q n) refs a
 
 -- a record in front of a list
-pub list_pushed : (owns owns' : RefParts → Type 0) (old new : RefParts → Row) (chain after : Chain) (r : RefParts) (refs : List RefParts) → IsList owns old chain refs → owns r → IsRef r → IsApart r refs → ((q : RefParts) → owns q → owns' q) → ((q : RefParts) → q.index ≢ r.index → new q ≡ old q) → new r ≡ with_next (old r) chain.head → after.head ≡ Some r → after.count ≡ chain.count + 1 → IsList owns' new after (r ∷ refs)
+pub list_pushed : (owns owns' : RefParts → Type 0) (old new : RefParts → Row) (chain after : Chain) (r : RefParts) (refs : List RefParts) → IsList owns old chain refs → owns r → IsRef r → IsApart r refs → ((q : RefParts) → owns q → owns' q)
+    → ((q : RefParts) → q.index ≢ r.index → new q ≡ old q) → new r ≡ with_next (old r) chain.head → after.head ≡ Some r → after.count ≡ chain.count + 1 → IsList owns' new after (r ∷ refs)
 list_pushed owns owns' old new chain after r refs h w b a o others stored head count =
     let rest = list_kept owns owns' old new chain refs o (rows_apart old new r refs others a) h in
     record {
@@ -58,13 +59,15 @@ list_pushed owns owns' old new chain after r refs h w b a o others stored head c
       owned = All-cons owns' r refs (o r w) rest.owned;
     }
 
-pub chain_pushed : (owns owns' : RefParts → Type 0) (old new : RefParts → Row) (chain after : Chain) (r : RefParts) → IsChain owns old chain → owns r → IsRef r → IsApart r (refs_of old chain) → ((q : RefParts) → owns q → owns' q) → ((q : RefParts) → q.index ≢ r.index → new q ≡ old q) → new r ≡ with_next (old r) chain.head → after.head ≡ Some r → after.count ≡ chain.count + 1 → (refs_of new after ≡ r ∷ refs_of old chain) × IsChain owns' new after
+pub chain_pushed : (owns owns' : RefParts → Type 0) (old new : RefParts → Row) (chain after : Chain) (r : RefParts) → IsChain owns old chain → owns r → IsRef r → IsApart r (refs_of old chain) → ((q : RefParts) → owns q → owns' q)
+    → ((q : RefParts) → q.index ≢ r.index → new q ≡ old q) → new r ≡ with_next (old r) chain.head → after.head ≡ Some r → after.count ≡ chain.count + 1 → (refs_of new after ≡ r ∷ refs_of old chain) × IsChain owns' new after
 chain_pushed owns owns' old new chain after r h w b a o others stored head count =
     let pushed = list_pushed owns owns' old new chain after r (refs_of old chain) h w b a o others stored head count in
     (refs_of-list owns' new after _ pushed, chain_of_list owns' new after _ pushed)
 
 -- a list without its first record
-pub list_popped : (owns owns' : RefParts → Type 0) (old new : RefParts → Row) (chain after : Chain) (r : RefParts) (refs : List RefParts) → IsList owns old chain (r ∷ refs) → ((q : RefParts) → owns q → owns' q) → ((q : RefParts) → new q ≡ old q) → after.head ≡ (old r).next → after.count ≡ chain.count - 1 → IsList owns' new after refs × owns' r × IsApart r refs × IsRef r
+pub list_popped : (owns owns' : RefParts → Type 0) (old new : RefParts → Row) (chain after : Chain) (r : RefParts) (refs : List RefParts) → IsList owns old chain (r ∷ refs) → ((q : RefParts) → owns q → owns' q) → ((q : RefParts) → new q ≡ old q)
+    → after.head ≡ (old r).next → after.count ≡ chain.count - 1 → IsList owns' new after refs × owns' r × IsApart r refs × IsRef r
 list_popped owns owns' old new chain after r refs h o same head count =
     let kept = list_kept owns owns' old new chain (r ∷ refs) o (λ k d b. same _) h in
     let next : after.head ≡ (new r).next = head ∙ ap (λ (row : Row). row.next) (sym (same r)) in
@@ -88,7 +91,8 @@ pub record Popped (owns : RefParts → Type 0) (old new : RefParts → Row) (cha
   pub owned : owns r
   pub apart : IsApart r (refs_of new after)
 
-pub popped_along : (owns owns' : RefParts → Type 0) (old new : RefParts → Row) (chain after : Chain) (r : RefParts) (refs : List RefParts) → refs_of old chain ≡ refs → IsList owns old chain refs → chain.head ≡ Some r → ((q : RefParts) → owns q → owns' q) → ((q : RefParts) → new q ≡ old q) → after.head ≡ (old r).next → after.count ≡ chain.count - 1 → Popped owns' old new chain after r
+pub popped_along : (owns owns' : RefParts → Type 0) (old new : RefParts → Row) (chain after : Chain) (r : RefParts) (refs : List RefParts) → refs_of old chain ≡ refs → IsList owns old chain refs → chain.head ≡ Some r → ((q : RefParts) → owns q → owns' q)
+    → ((q : RefParts) → new q ≡ old q) → after.head ≡ (old r).next → after.count ≡ chain.count - 1 → Popped owns' old new chain after r
 popped_along owns owns' old new chain after r [] e h first o same head count =
     let leads = h.leads in
     absurd cc
@@ -105,7 +109,8 @@ popped_along owns owns' old new chain after r (q ∷ refs) e h first o same head
     }
 
 -- what pop leaves of a chain that isn't empty
-pub chain_popped : (owns owns' : RefParts → Type 0) (old new : RefParts → Row) (chain after : Chain) (r : RefParts) → IsChain owns old chain → chain.head ≡ Some r → ((q : RefParts) → owns q → owns' q) → ((q : RefParts) → new q ≡ old q) → after.head ≡ (old r).next → after.count ≡ chain.count - 1 → Popped owns' old new chain after r
+pub chain_popped : (owns owns' : RefParts → Type 0) (old new : RefParts → Row) (chain after : Chain) (r : RefParts) → IsChain owns old chain → chain.head ≡ Some r → ((q : RefParts) → owns q → owns' q) → ((q : RefParts) → new q ≡ old q) → after.head ≡ (old r).next
+    → after.count ≡ chain.count - 1 → Popped owns' old new chain after r
 chain_popped owns owns' old new chain after r h first o same head count =
     popped_along owns owns' old new chain after r (refs_of old chain) refl h first o same head count
 

@@ -31,6 +31,8 @@ impl ChainWords for MemoryRows {
 
     ghost stores = { λ v r next w. vec_len v.rows ≡ vec_len w.rows };
 
+    ghost looks = { λ v r word w. w ≡ v };
+
     fn load_chain(&mut self, r: Ref) -> Option<Ref> {
         self.rows[r.index as usize].next
     }

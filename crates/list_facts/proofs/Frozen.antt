@@ -14,8 +14,10 @@ use Rattle.list_facts.proofs.Nodes.{target_is}
 abbrev pub Follows : ShapeInput → ShapeCell → RefParts → Type 0
 Follows x cell t = LeadsTo x.cells t ⊎ ((k : ℕ) × (generation : ℕ) × (m : ℕ) × (body : List ℕ) × (cell ≡ out generation body m k) × (j : ℕ) × (k ≤ j) × At x.taken_out j t)
 
-follows_from : {flags : ℕ → Type 0} {setup : Setup} {x : ShapeInput} → ListFits flags setup x → (s : ShapeFacts) (near : Near) (i generation m : ℕ) (body : List ℕ) (cell : ShapeCell) (t : RefParts) → At x.cells i cell → FitsNear s x.cells near i generation body m → (link_at body 3).target ≡ Some t → Follows x cell t
-follows_from {setup = setup} {x = x} fits s _ i generation m body cell t at (is_root j e k b there) e3 = inl (leads_linked setup x.cells (record { home = i; rank = 0; generation = generation; body = body }) t (fits.next i (record { home = i; rank = 0; generation = generation; body = body }) t (root generation body m, there, refl) e3))
+follows_from : {flags : ℕ → Type 0} {setup : Setup} {x : ShapeInput} → ListFits flags setup x → (s : ShapeFacts) (near : Near) (i generation m : ℕ) (body : List ℕ) (cell : ShapeCell) (t : RefParts) → At x.cells i cell → FitsNear s x.cells near i generation body m
+    → (link_at body 3).target ≡ Some t → Follows x cell t
+follows_from {setup = setup} {x = x} fits s _ i generation m body cell t at (is_root j e k b there) e3 = inl
+    (leads_linked setup x.cells (record { home = i; rank = 0; generation = generation; body = body }) t (fits.next i (record { home = i; rank = 0; generation = generation; body = body }) t (root generation body m, there, refl) e3))
 follows_from {setup = setup} {x = x} fits s _ i generation m body cell t at (is_linked j e k b note there known) e3 = inl (leads_linked setup x.cells (linked_spot setup generation body) t (fits.next i (linked_spot setup generation body) t (linked generation body m, there, refl) e3))
 follows_from {x = x} fits s _ i generation m body cell t at (is_out j e k n b note there known) e3 = ⊎_elim inl (λ y. inr (n, generation, m, body, one_at x.cells i cell (out generation body m n) at there, y.0, (let z = y.1 in omega arith), y.2)) (fits.later i generation m n body t there e3)
 

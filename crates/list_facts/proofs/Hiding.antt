@@ -24,7 +24,8 @@ module _ (cells cells' : List ShapeCell) (h : HiddenCells cells cells') where
     next = λ i a t s e. let y = f.next i a t (in_x i a s) e in (y.0, y.1, spot_after setup (t.index - 1) y.0 (subst (λ (l : List ShapeCell). IsSpot setup l (t.index - 1) y.0) is y.2), y.3, y.4, y.5);
     one = λ i j a b s t. f.one i j a b (in_x i a s) (in_x j b t);
     gap = λ i j a b s t same lt. let y = f.gap i j a b (in_x i a s) (in_x j b t) same lt in (y.0, y.1, y.2, spot_after setup (y.0.index - 1) y.1 (subst (λ (l : List ShapeCell). IsSpot setup l (y.0.index - 1) y.1) is y.3), y.4);
-    later = λ i generation m n body t at e. ⊎_elim (λ y. inl (leads_after cells cells' h t (subst (λ (l : List ShapeCell). LeadsTo l t) is y))) inr (f.later i generation m n body t (subst (λ (l : List ShapeCell). At l i (out generation body m n)) (sym is) (cell_before cells cells' h i (out generation body m n) at (λ q. let none : ⊥ = cc in none))) e);
+    later = λ i generation m n body t at e. ⊎_elim (λ y. inl (leads_after cells cells' h t (subst (λ (l : List ShapeCell). LeadsTo l t) is y))) inr
+        (f.later i generation m n body t (subst (λ (l : List ShapeCell). At l i (out generation body m n)) (sym is) (cell_before cells cells' h i (out generation body m n) at (λ q. let none : ⊥ = cc in none))) e);
     sorted = λ i cell at. sorted_by cell (λ seen. f.sorted i cell (subst (λ (l : List ShapeCell). At l i cell) (sym is) (cell_before cells cells' h i cell at seen)));
   }
     where

@@ -19,3 +19,4 @@ pub mod Ways
 pub mod PathRows
 pub mod RootPaths
 pub mod ListEnds
+pub mod Walking

@@ -17,7 +17,7 @@ use Rattle.list_facts.specs.Lists.{IsSpot, IsSorted, ListFits}
 use Rattle.list_facts.specs.Tellings.{IsPresent, ListTold}
 use Rattle.list_facts.specs.Michael.{michael}
 use Rattle.list_facts.specs.Paths.{row_link, row_key, IsSetOf, HasPresent, ArePaths}
-use Rattle.list_facts.specs.ClosedLists.{IsListSet, any_flags, rows_of, IsLinked, AreListed, ClosedLists}
+use Rattle.list_facts.specs.ClosedLists.{IsListSet, any_flags, table_rows, IsLinked, AreListed, ClosedLists}
 use Rattle.list_facts.proofs.Cells.{ordered}
 use Rattle.list_facts.proofs.Spots.{Ordered}
 use Rattle.list_facts.proofs.PathRows.{Stand, linked_here, link_row, key_row}
@@ -37,11 +37,11 @@ module _ {setup : Setup} {words : List ℕ} {records : List Record} (numbers : I
   order : Ordered (Stand setup records)
   order = subst (λ (cells : List ShapeCell). Ordered (IsSpot setup cells)) c.cells (ordered c.fits)
 
-  pub listed_paths : ArePaths setup (rows_of setup words) (IsLinked records)
+  pub listed_paths : ArePaths setup (table_rows setup words) (IsLinked records)
   listed_paths = subst (λ rs. ArePaths setup rs (IsLinked records)) c.rows (are_paths setup records numbers.roots numbers.rooted c.many c.sound order)
 
   -- what the cells say is present is what the words say
-  present_words : (k : ℕ) → IsPresent c.input.cells k → HasPresent setup (rows_of setup words) k
+  present_words : (k : ℕ) → IsPresent c.input.cells k → HasPresent setup (table_rows setup words) k
   present_words k (i, generation, m, body, at, clear, same) =
       let x = map_at shape_cell records i (linked generation body m) (subst (λ (cells : List ShapeCell). At cells i (linked generation body m)) c.cells at) in
       let p = linked_place generation m body x.0.place x.0 x.2 in
@@ -53,7 +53,7 @@ module _ {setup : Setup} {words : List ℕ} {records : List Record} (numbers : I
         subst (λ rs. row_key rs i ≡ k) c.rows (sym (key_row setup records i a.0 a.1) ∙ ap key_at b ∙ same),
       )
 
-  present_cells : (k : ℕ) → HasPresent setup (rows_of setup words) k → IsPresent c.input.cells k
+  present_cells : (k : ℕ) → HasPresent setup (table_rows setup words) k → IsPresent c.input.cells k
   present_cells k (i, on, clear, same) =
       let (r, at, is) = listed_paths.is_linked i on in
       let a = linked_here setup records i r at is in (
@@ -67,7 +67,7 @@ module _ {setup : Setup} {words : List ℕ} {records : List Record} (numbers : I
       )
 
   -- so the set of the words is what the updates leave
-  pub listed_set : (h : Trace) → ListTold c.input h → IsSetOf setup (rows_of setup words) (keys_of h.updates)
+  pub listed_set : (h : Trace) → ListTold c.input h → IsSetOf setup (table_rows setup words) (keys_of h.updates)
   listed_set h told k = ((λ x. present_words k ((told.keys k).0 x)), (λ x. (told.keys k).1 (present_cells k x)))
 
 module _ {s : ShapeFacts} {c : CoverFacts} {setup : Setup} {words : List ℕ} {books : List Book} {history : List Update} (lists : IsListSet s) (f : ClosedFits s c setup words books history) where
@@ -92,7 +92,7 @@ module _ {s : ShapeFacts} {c : CoverFacts} {setup : Setup} {words : List ℕ} {b
     numbers = f.numbers;
     listed = closed_listed;
     paths = listed_paths f.numbers closed_listed;
-    set = subst (λ updates. IsSetOf setup (rows_of setup words) (keys_of updates)) none_behind (listed_set f.numbers closed_listed _ told);
+    set = subst (λ updates. IsSetOf setup (table_rows setup words) (keys_of updates)) none_behind (listed_set f.numbers closed_listed _ told);
     marks = λ i m body marked. let x = told.marks i m body marked in (x.0, (x.1.0, subst (λ updates. At updates (m - 1) x.1.0) none_behind x.1.1, x.1.2, x.1.3));
     alone = told.alone;
     balance = sym (ap removals_in none_behind) ∙ told.balance;

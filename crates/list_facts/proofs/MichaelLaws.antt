@@ -1,8 +1,8 @@
 -- Michael's list keeps its facts.
 use Rattle.std.proofs.Common.{refl, arith, sym, subst}
 use Rattle.set_model.specs.declared.names.SetName.{SetName}
-use Rattle.record_rule.specs.Facts.{with_link, clean, IsLegalUpdate, update_for}
-use Rattle.record_rule.specs.Laws.{ShapeLaws}
+use Rattle.record_rule.specs.Facts.{with_link, clean, IsLegalUpdate}
+use Rattle.record_rule.specs.Laws.{update_by, ShapeLaws}
 use Rattle.list_facts.specs.Michael.{michael}
 use Rattle.list_facts.proofs.Bodies.{clear_flags, is_unsettled, stays_settled}
 use Rattle.list_facts.proofs.Nodes.{clean_link}
@@ -14,34 +14,37 @@ use Rattle.list_facts.proofs.Unlinking.{unlinks}
 use Rattle.list_facts.proofs.Openings.{opening_fits, opening_told}
 use Rattle.list_facts.proofs.Shows.{shows}
 use Rattle.list_facts.proofs.Hiding.{hiding_fits, hiding_told}
+use Rattle.list_facts.proofs.Walking.{list_walks, list_reads}
 
 -- its only flag is the mark
 pub michael_laws : ShapeLaws michael
 michael_laws = record {
   starts = λ setup h some fit none. (opening_fits setup _ (omega arith), opening_told setup h none);
+  walks = λ setup x h given body t on step. list_walks given.1.0 body t on step;
+  reads = λ setup x h given roots. list_reads given.1.0 roots given.1.1;
   keys_stand = λ setup x near f l fits n. refl;
   reaches = λ setup x near f l t fits n hold clear e. reaches fits n hold clear t e;
-  exchanges = λ setup x h c number near f old new call given n in_range may. let clear = clean_link n may.0 (clear_flags old 0 refl may.3) in record {
-    stands = marks given.1.0 given.1.1 n in_range 0 refl may c number (omega arith);
-    legal = subst (λ (z : SetName). IsLegalUpdate z h.updates (update_for c number call)) (sym given.3) (rw (call_is given.1.0 given.1.1 n in_range 0 refl may) (mark_legal given.1.0 given.1.1 n in_range 0 refl may c number));
-    unsettled = is_unsettled n.body f may.0 clear;
-    settled = λ g. stays_settled n.body (with_link n.body f n.generation new) g clear;
+  exchanges = λ setup x h t new given n in_range may. let clear = clean_link n may.0 (clear_flags t.old 0 refl may.3) in record {
+    stands = marks given.1.0 given.1.1 n in_range 0 refl may t.caller t.number (omega arith);
+    legal = subst (λ (z : SetName). IsLegalUpdate z h.updates (update_by t)) (sym given.3) (rw (call_is given.1.0 given.1.1 n in_range 0 refl may) (mark_legal given.1.0 given.1.1 n in_range 0 refl may t.caller t.number));
+    unsettled = is_unsettled n.body t.field may.0 clear;
+    settled = λ g. stays_settled n.body (with_link n.body t.field n.generation new) g clear;
     known = λ start k e. tt;
   };
-  publishes = λ setup x h c number near f old own body marked next call given n fits_next free ref long name may. let clear = clean_link n may.field (clear_flags old 0 refl may.flags_are) in record {
-    stands = publishes given.1.0 given.1.1 n 0 refl fits_next may free ref marked c number (omega arith);
-    legal = subst (λ (z : SetName). IsLegalUpdate z h.updates (update_for c number call)) (sym given.3) (rw may.decides (publish_legal given.1.0 given.1.1 n 0 refl fits_next may c number));
-    unsettled = is_unsettled n.body f may.field clear;
-    settled = λ g. stays_settled n.body (with_link n.body f n.generation (clean own)) g clear;
+  publishes = λ setup x h t own body marked next given n fits_next free ref long name may. let clear = clean_link n may.field (clear_flags t.old 0 refl may.flags_are) in record {
+    stands = publishes given.1.0 given.1.1 n 0 refl fits_next may free ref marked t.caller t.number (omega arith);
+    legal = subst (λ (z : SetName). IsLegalUpdate z h.updates (update_by t)) (sym given.3) (rw may.decides (publish_legal given.1.0 given.1.1 n 0 refl fits_next may t.caller t.number));
+    unsettled = is_unsettled n.body t.field may.field clear;
+    settled = λ g. stays_settled n.body (with_link n.body t.field n.generation (clean own)) g clear;
     known = λ start k e. tt;
   };
-  gone_linked = λ setup x near f old gone note new next call fits n to may. let clear = clear_flags old 0 refl may.0 in (reaches fits n may.1.0 clear gone to, not_itself fits n may.1.0 clear gone to);
+  gone_linked = λ setup x t gone note new next fits n to may. let clear = clear_flags t.old 0 refl may.0 in (reaches fits n may.1.0 clear gone to, not_itself fits n may.1.0 clear gone to);
   follows = λ setup x h near f l start c kept t given n at behind known may to. follows_behind x (leads_from given.1.0 n may t to) behind;
-  unlinks = λ setup x h c number near f old gone note new next call i generation m body given n to held behind in_range may. let clear = clear_flags old 0 refl may.0 in let plain = clean_link n may.1.0 clear in record {
+  unlinks = λ setup x h t gone note new next i generation m body given n to held behind in_range may. let clear = clear_flags t.old 0 refl may.0 in let plain = clean_link n may.1.0 clear in record {
     stands = rw may.2 (unlinks given.1.0 given.1.1 n to clear held in_range may.1 (omega arith) given.0);
     legal = rw may.2 tt;
-    unsettled = is_unsettled n.body f may.1.0 plain;
-    settled = λ g. stays_settled n.body (with_link n.body f n.generation new) g plain;
+    unsettled = is_unsettled n.body t.field may.1.0 plain;
+    settled = λ g. stays_settled n.body (with_link n.body t.field n.generation new) g plain;
     known = λ start k e. tt;
   };
   hides = λ setup x h cells given hid. record { stands = (hiding_fits x.cells cells hid _ setup x refl given.1.0, hiding_told x h cells hid given.1.1); known = λ start k e. tt };

@@ -23,11 +23,6 @@ abbrev pub IsNamed : Near → ℕ → ℕ → Type 0
 IsNamed (at_root n) i generation = Unit {0}
 IsNamed (at_held r note) i generation = r ≡ refer (i + 1) generation
 
--- its noted words are the body's
-abbrev pub IsNoted : ShapeFacts → Near → List ℕ → Type 0
-IsNoted s (at_root n) body = Unit {0}
-IsNoted s (at_held r note) body = FitsNote s note body
-
 -- the cell of a node without a mark
 abbrev pub cell_near : Near → ℕ → List ℕ → ℕ → ShapeCell
 cell_near (at_root n) generation body m = root generation body m
@@ -63,12 +58,6 @@ module _ {s : ShapeFacts} {cells : List ShapeCell} where
   named (is_root i generation m body at) = tt
   named (is_linked i generation m body note at known) = refl
   named (is_out i generation m n body note at known) = refl
-
-  -- what is noted of a held record
-  pub noted : {near : Near} {i generation m : ℕ} {body : List ℕ} → FitsNear s cells near i generation body m → IsNoted s near body
-  noted (is_root i generation m body at) = tt
-  noted (is_linked i generation m body note at known) = known
-  noted (is_out i generation m n body note at known) = known
 
   -- the index of a held record
   pub index_held : {r : RefParts} {note : Note} {i generation m : ℕ} {body : List ℕ} → FitsNear s cells (at_held r note) i generation body m → r.index - 1 ≡ i

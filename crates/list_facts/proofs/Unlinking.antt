@@ -12,6 +12,7 @@ use Rattle.record_rule.specs.Inputs.{ShapeCell, linked, out, ShapeInput, Trace}
 use Rattle.record_rule.specs.Facts.{At, link_at, with_link, mark_bit, HasMark, Near, at_held, ShapeFacts, FitsNear}
 use Rattle.record_rule.specs.Laws.{LeadsTo, NodeIs, OutCellsFit, relinked, grown}
 use Rattle.record_rule.proofs.Lists.{below_at, one_at, each_set}
+use Rattle.record_rule.proofs.LinkLoads.{fits_body}
 use Rattle.list_facts.specs.Lists.{Spot, IsSpot, LeadsUp, IsSorted, ListFits}
 use Rattle.list_facts.specs.Tellings.{ListTold}
 use Rattle.list_facts.specs.Steps.{marked_with, MayUnlink}
@@ -19,7 +20,7 @@ use Rattle.list_facts.proofs.Spots.{Ordered}
 use Rattle.list_facts.proofs.Removing.{Removes, removed, past}
 use Rattle.list_facts.proofs.Bodies.{clear_flags}
 use Rattle.list_facts.proofs.Cells.{linked_spot, one_spot, spot_set, spot_else, leads_else, leads_linked}
-use Rattle.list_facts.proofs.Nodes.{cell_near, spot_near, named, noted, index_held, spot_held, target_is, node_at, node_spot, relinked_is}
+use Rattle.list_facts.proofs.Nodes.{cell_near, spot_near, named, index_held, spot_held, target_is, node_at, node_spot, relinked_is}
 use Rattle.list_facts.proofs.Turning.{not_itself, target_after, cell_sorted, turned_node, turned_from, leads_turned, out_turned}
 use Rattle.list_facts.proofs.Told.{told_moved, told_turned}
 
@@ -37,7 +38,7 @@ module _ {flags : ℕ → Type 0} {setup : Setup} {x : ShapeInput} {h : Trace} (
   gone_link : link_at body 3 ≡ marked_with new
   gone_link =
       let marks : IsLink (marked_with new) = record { flags = omega arith; target = in_range.target } in
-      ap link_in (noted held 0 (packed_link may.1.0 (marked_with new)) may.1.1).0 ∙ link_in-packed_link may.1.0 (marked_with new) marks
+      ap link_in (fits_body _ _ _ _ _ _ _ held 0 (packed_link may.1.0 (marked_with new)) may.1.1).0 ∙ link_in-packed_link may.1.0 (marked_with new) marks
 
   -- so it has a mark
   pub gone_mark : HasMark (link_at body 3)

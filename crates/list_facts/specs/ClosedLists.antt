@@ -24,8 +24,8 @@ pub record IsListSet (s : ShapeFacts) : Type 0 where
   pub unhelped : ¬ s.helped
 
 -- the rows of a table's words
-abbrev pub rows_of : Setup → List ℕ → List (List ℕ)
-rows_of setup words = (memory setup.callers setup.records words).rows
+abbrev pub table_rows : Setup → List ℕ → List (List ℕ)
+table_rows setup words = (memory setup.callers setup.records words).rows
 
 -- the record with the index i + 1 is linked
 abbrev pub IsLinked : List Record → ℕ → Type 0
@@ -34,7 +34,7 @@ IsLinked records i = (r : Record) × At records i r × (r.place ≡ Linked)
 -- These records have the rows of the words, and those that are linked stand in sorted lists
 pub record AreListed (setup : Setup) (words : List ℕ) (records : List Record) : Type 0 where
   pub many : length records ≡ setup.records
-  pub rows : map (λ (r : Record). r.row) records ≡ rows_of setup words
+  pub rows : map (λ (r : Record). r.row) records ≡ table_rows setup words
   pub sound : (i : ℕ) (r : Record) → At records i r → IsSound setup i r
   pub input : ShapeInput
   pub cells : input.cells ≡ map shape_cell records
@@ -45,9 +45,9 @@ pub record ClosedLists (setup : Setup) (words : List ℕ) (history : List Update
   pub numbers : IsSetup setup
   pub listed : AreListed setup words records
   -- each root has exactly one path, and what is linked stands on these alone, by its key
-  pub paths : ArePaths setup (rows_of setup words) (IsLinked records)
+  pub paths : ArePaths setup (table_rows setup words) (IsLinked records)
   -- the keys on them without a mark are those that the history leaves
-  pub set : IsSetOf setup (rows_of setup words) (keys_of history)
+  pub set : IsSetOf setup (table_rows setup words) (keys_of history)
   -- each marked record has the position, from 1, of the removal that marked it
   pub marks : (i m : ℕ) (body : List ℕ) → IsMarked (map shape_cell records) i body m 0 → (0 < m) × ((u : Update) × At history (m - 1) u × (u.key ≡ key_at body) × (u.added ≡ false))
   -- and no other record has it

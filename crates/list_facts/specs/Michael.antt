@@ -3,7 +3,7 @@ use Rattle.std.specs.Prelude.{◌≡◌, ◌<◌, None}
 use Rattle.set_model.specs.declared.names.SetName.TheVariants.{Michael}
 use Rattle.record_rule.specs.Facts.{ShapeFacts}
 use Rattle.list_facts.specs.Lists.{ListFits}
-use Rattle.list_facts.specs.Tellings.{ListTold, ListShown}
+use Rattle.list_facts.specs.Tellings.{ListTold, list_leads, list_present, ListShown}
 use Rattle.list_facts.specs.Steps.{list_settled, MayMark, MayPublish, MayUnlink}
 
 abbrev pub michael : ShapeFacts
@@ -11,6 +11,8 @@ michael = record {
   name = Michael;
   formed = ListFits (λ n. n < 2);
   told = λ setup x h. ListTold x h;
+  leads = list_leads;
+  present = list_present;
   knows = λ setup x updates start k. Unit {0};
   helped = ⊥;
   settled = list_settled;

@@ -8,6 +8,13 @@ use Rattle.row_words.specs.Refs.{RefParts}
 use Rattle.record_rule.specs.Inputs.{ShapeCell, hidden, root, linked, out, ShapeInput, Trace}
 use Rattle.record_rule.specs.Facts.{At, link_at, key_at, mark_bit, HasMark, Sight}
 
+-- a walk goes along word 3, and a record without a mark has its key in the set
+abbrev pub list_leads : ℕ → List ℕ → Bool
+list_leads f body = f == 3
+
+abbrev pub list_present : List ℕ → Bool
+list_present body = mark_bit (link_at body 3) == 0
+
 -- a linked record without a mark has the key
 abbrev pub IsPresent : List ShapeCell → ℕ → Type 0
 IsPresent cells k = (i generation m : ℕ) × (body : List ℕ) × At cells i (linked generation body m) × (¬ HasMark (link_at body 3)) × (key_at body ≡ k)

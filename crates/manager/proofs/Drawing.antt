@@ -12,9 +12,9 @@ use Rattle.record_rule.proofs.Lists.{counts_same}
 use Rattle.record_rule.proofs.Makes.{idle_mine}
 use Rattle.record_rule.proofs.HandingOut.{known_within}
 use Rattle.alloc_api.specs.Drawn.{IsNew, GetsOne, GetsNone}
-use Rattle.reclaim_api.specs.Frames.{in_limbo}
+use Rattle.reclaim_api.specs.Frames.{in_away}
 use Rattle.reclaim_api.proofs.Kept.{Stays}
-use Rattle.manager.proofs.OneShare.{LimboStays, all_stay, limbo_new}
+use Rattle.manager.proofs.OneShare.{AwayStays, all_stay, limbo_new}
 use Rattle.manager.proofs.Stay.{mine_stays}
 
 -- a record came
@@ -24,7 +24,7 @@ module _ (v w : View) (r : RefParts) (new : IsNew v w r) (one : GetsOne v w r) w
   within = let k = known_within w.own.mine (r.index - 1) (drawn_share v.setup.first) new.untouched in let e = ap (λ x. length x) one.mine ∙ length-set v.own.mine (r.index - 1) (Some (drawn_share v.setup.first)) in omega arith
 
   -- what is in limbo stays
-  new_limbo : LimboStays v w
+  new_limbo : AwayStays v w
   new_limbo = limbo_new v w r.index (drawn_share v.setup.first) new.new one.mine within refl
 
   -- and as many are idle
@@ -34,9 +34,9 @@ module _ (v w : View) (r : RefParts) (new : IsNew v w r) (one : GetsOne v w r) w
 
 module _ {E : Type 0} (v w : View) where
   -- what is in limbo stays
-  pub draws_limbo : (o : Result RefParts E) → MatchResult o (λ r. IsNew v w r) (λ _. Unit {0}) → MatchResult o (λ r. GetsOne v w r) (λ _. GetsNone v w) → LimboStays v w
+  pub draws_limbo : (o : Result RefParts E) → MatchResult o (λ r. IsNew v w r) (λ _. Unit {0}) → MatchResult o (λ r. GetsOne v w r) (λ _. GetsNone v w) → AwayStays v w
   draws_limbo (Ok r) new one = new_limbo v w r new one
-  draws_limbo (Err e) new none = λ i. ap (λ l. in_limbo (get_or l i None)) none.mine
+  draws_limbo (Err e) new none = λ i. ap (λ l. in_away (get_or l i None)) none.mine
 
   -- and so does all that the caller had
   pub draws_stay : (o : Result RefParts E) → MatchResult o (λ r. IsNew v w r) (λ _. Unit {0}) → MatchResult o (λ r. GetsOne v w r) (λ _. GetsNone v w) → (standing : Standing) → Stays standing v w

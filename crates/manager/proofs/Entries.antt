@@ -8,9 +8,9 @@ use Rattle.record_memory.specs.declared.books.Standing.{Standing}
 use Rattle.record_memory.specs.declared.books.Standing.TheVariants.{Handing, Own, Spare, TakenOut, Limbo, Free, Spent}
 use Rattle.record_rule.specs.Kinds.{share_in, is_idle_as, is_idle, idle}
 use Rattle.record_rule.proofs.Lists.{counts_same}
-use Rattle.reclaim_api.specs.Frames.{limbo_as, in_limbo}
+use Rattle.reclaim_api.specs.Frames.{away_as, in_away}
 use Rattle.reclaim_api.proofs.Kept.{Stays}
-use Rattle.manager.proofs.OneShare.{LimboStays}
+use Rattle.manager.proofs.OneShare.{AwayStays}
 
 -- a record that its caller has in no chain and not in limbo
 abbrev pub IsAloofAs : Standing → Type 0
@@ -41,7 +41,7 @@ not_idle None a = refl
 not_idle (Some h) a = idle_as h.standing a
 
 -- nor in limbo
-limbo_none : (h : Share) (s : Standing) → IsAloofAs s → limbo_as h s ≡ None
+limbo_none : (h : Share) (s : Standing) → IsAloofAs s → away_as h s ≡ None
 limbo_none h (Handing n) a = refl
 limbo_none h Own a = refl
 limbo_none h TakenOut a = refl
@@ -50,7 +50,7 @@ limbo_none h Limbo a = absurd a
 limbo_none h Free a = absurd a
 limbo_none h Spent a = absurd a
 
-not_limbo : (o : Option Share) → IsAloof o → in_limbo o ≡ None
+not_limbo : (o : Option Share) → IsAloof o → in_away o ≡ None
 not_limbo None a = refl
 not_limbo (Some h) a = limbo_none h h.standing a
 
@@ -68,12 +68,12 @@ module _ (v w : View) (i : ℕ) (old new : Option Share) (was : share_in v i ≡
       by (no ne) = ap (λ l. get_or l (j - 1) None) mine ∙ get_or-set_other v.own.mine (i - 1) (j - 1) new None ne ∙ at
 
   -- and so does what is in limbo
-  pub entry_limbo : LimboStays v w
+  pub entry_limbo : AwayStays v w
   entry_limbo j = by (ℕ_discrete j (i - 1))
     where
-      by : Dec (j ≡ i - 1) → in_limbo (get_or w.own.mine j None) ≡ in_limbo (get_or v.own.mine j None)
-      by (yes e) = ap (λ k. in_limbo (get_or w.own.mine k None)) e ∙ ap in_limbo here ∙ not_limbo new after ∙ sym (not_limbo old before) ∙ ap in_limbo (sym was) ∙ sym (ap (λ k. in_limbo (get_or v.own.mine k None)) e)
-      by (no ne) = ap (λ l. in_limbo (get_or l j None)) mine ∙ ap in_limbo (get_or-set_other v.own.mine (i - 1) j new None ne)
+      by : Dec (j ≡ i - 1) → in_away (get_or w.own.mine j None) ≡ in_away (get_or v.own.mine j None)
+      by (yes e) = ap (λ k. in_away (get_or w.own.mine k None)) e ∙ ap in_away here ∙ not_limbo new after ∙ sym (not_limbo old before) ∙ ap in_away (sym was) ∙ sym (ap (λ k. in_away (get_or v.own.mine k None)) e)
+      by (no ne) = ap (λ l. in_away (get_or l j None)) mine ∙ ap in_away (get_or-set_other v.own.mine (i - 1) j new None ne)
 
   -- as many are idle
   pub entry_idle : idle w.own ≡ idle v.own

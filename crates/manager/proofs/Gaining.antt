@@ -9,10 +9,10 @@ use Rattle.row_words.specs.Refs.{RefParts}
 use Rattle.row_words.specs.declared.links.Chain.{Chain}
 use Rattle.record_rule.specs.Kinds.{share_in, idle}
 use Rattle.reclaim_api.specs.Chained.{IsAs, refs_in}
-use Rattle.reclaim_api.specs.Frames.{limbo_as, in_limbo}
+use Rattle.reclaim_api.specs.Frames.{away_as, in_away}
 use Rattle.reclaim_api.proofs.Kept.{Stays}
 use Rattle.pool.specs.Calls.{IsFull, Gains}
-use Rattle.manager.proofs.OneShare.{LimboStays}
+use Rattle.manager.proofs.OneShare.{AwayStays}
 
 -- a record is in a list, or apart from it
 is_in : (P : RefParts → Type 0) (i : ℕ) (refs : List RefParts) → All P refs → All (λ (r : RefParts). r.index ≢ i) refs ⊎ ((r : RefParts) × P r × (r.index ≡ i))
@@ -39,7 +39,7 @@ module _ (v w : View) (chain : Chain) (full : IsFull w chain) (gains : Gains v w
   both k d b = (gains.had k d b, full.list.list.owned k d b)
 
   -- and what is in limbo stays
-  pub gained_limbo : LimboStays v w
+  pub gained_limbo : AwayStays v w
   gained_limbo j = by (is_in (λ r. (share_in v r.index ≡ None) × IsAs Free w r) (j + 1) (refs_in w chain) both)
     where
       place : j + 1 - 1 ≡ j
@@ -51,9 +51,9 @@ module _ (v w : View) (chain : Chain) (full : IsFull w chain) (gains : Gains v w
       at_w : share_in w (j + 1) ≡ get_or w.own.mine j None
       at_w = ap (λ k. get_or w.own.mine k None) place
 
-      by : All (λ (r : RefParts). r.index ≢ j + 1) (refs_in w chain) ⊎ ((r : RefParts) × ((share_in v r.index ≡ None) × IsAs Free w r) × (r.index ≡ j + 1)) → in_limbo (get_or w.own.mine j None) ≡ in_limbo (get_or v.own.mine j None)
-      by (inl apart) = ap in_limbo (sym at_w ∙ gains.others (j + 1) apart ∙ at_v)
-      by (inr found) = let free = found.1.1 in ap in_limbo (sym at_w ∙ ap (share_in w) (sym found.2) ∙ free.owns.known) ∙ ap (limbo_as free.owns.share) free.standing_is ∙ ap in_limbo (sym found.1.0 ∙ ap (share_in v) found.2 ∙ at_v)
+      by : All (λ (r : RefParts). r.index ≢ j + 1) (refs_in w chain) ⊎ ((r : RefParts) × ((share_in v r.index ≡ None) × IsAs Free w r) × (r.index ≡ j + 1)) → in_away (get_or w.own.mine j None) ≡ in_away (get_or v.own.mine j None)
+      by (inl apart) = ap in_away (sym at_w ∙ gains.others (j + 1) apart ∙ at_v)
+      by (inr found) = let free = found.1.1 in ap in_away (sym at_w ∙ ap (share_in w) (sym found.2) ∙ free.owns.known) ∙ ap (away_as free.owns.share) free.standing_is ∙ ap in_away (sym found.1.0 ∙ ap (share_in v) found.2 ∙ at_v)
 
   -- as many more are idle
   pub gained_idle : idle w.own ≡ idle v.own + chain.count

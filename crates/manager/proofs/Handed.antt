@@ -10,9 +10,10 @@ use Rattle.row_words.specs.Refs.{RefParts}
 use Rattle.record_rule.specs.Kinds.{stored_as}
 use Rattle.record_rule.specs.HandingOut.{HasDrawn, handed_out, stores_from, fresh_row}
 use Rattle.record_rule.proofs.HandingOut.{share_known, share_then, standing_then, standing_last}
-use Rattle.reclaim_api.specs.Frames.{limbo_as}
+use Rattle.reclaim_api.specs.Frames.{away_as}
 use Rattle.reclaim_api.proofs.Kept.{Stays}
-use Rattle.manager.proofs.OneShare.{LimboStays, others_stay, limbo_stays}
+use Rattle.manager.proofs.MoveCounts.{AreSameMoves, same_moves, moves_then, stored_moves}
+use Rattle.manager.proofs.OneShare.{AwayStays, others_stay, limbo_stays}
 
 -- a record that was drawn still is
 pub still_drawn : (v w : View) (r : RefParts) → w.setup ≡ v.setup → w.own.mine ≡ v.own.mine → HasDrawn v r → HasDrawn w r
@@ -50,7 +51,7 @@ apart : (a b : Standing) (n : ℕ) → a ≡ Handing n → IsThere b → a ≢ b
 apart a b n is there e = subst IsThere (sym e ∙ is) there
 
 -- it isn't in limbo
-no_limbo : (h : Share) (s : Standing) → IsBusy s → limbo_as h s ≡ None
+no_limbo : (h : Share) (s : Standing) → IsBusy s → away_as h s ≡ None
 no_limbo h (Handing n) b = refl
 no_limbo h Own b = refl
 no_limbo h Spare b = absurd b
@@ -82,10 +83,16 @@ module _ (v : View) (r : RefParts) (birth : ℕ) (d : HasDrawn v r) where
   more n = ap (stored_as (at n) r.index n (get_or row n 0)) (share_known v r.index row d.share d.known n)
 
   -- what is in limbo stays at each
-  limbo : (n : ℕ) → n < 9 → LimboStays v (at n)
+  limbo : (n : ℕ) → n < 9 → AwayStays v (at n)
   limbo zero lt j = refl
-  limbo (suc n) lt j = limbo_stays (at n) (at (suc n)) r.index (share n) (share (suc n)) (share_known v r.index row d.share d.known n) (ap (λ (x : View). x.own.mine) (more n)) (no_limbo (share n) (share n).standing (busy n (omega arith))) (no_limbo (share (suc n)) (share (suc n)).standing (busy (suc n) (omega arith))) j
+  limbo (suc n) lt j = limbo_stays (at n) (at (suc n)) r.index (share n) (share (suc n)) (share_known v r.index row d.share d.known n)
+      (ap (λ (x : View). x.own.mine) (more n)) (no_limbo (share n) (share n).standing (busy n (omega arith))) (no_limbo (share (suc n)) (share (suc n)).standing (busy (suc n) (omega arith))) j
       ∙ limbo n (omega arith) j
+
+  -- no record is moved but so
+  moved : (n : ℕ) → n < 9 → AreSameMoves v.own.moves (at n).own.moves
+  moved zero lt = same_moves v.own.moves v.own.moves refl
+  moved (suc n) lt = moves_then v.own.moves (at n).own.moves (at (suc n)).own.moves (moved n (omega arith)) (subst (AreSameMoves (at n).own.moves) (sym (ap (λ (x : View). x.own.moves) (more n))) (stored_moves (share n).standing (at n).own.moves))
 
   -- and so do records that aren't being handed out
   stay : (standing : Standing) → IsThere standing → (n : ℕ) → n < 9 → Stays standing v (at n)
@@ -94,9 +101,13 @@ module _ (v : View) (r : RefParts) (birth : ℕ) (d : HasDrawn v r) where
       (apart (share n).standing standing n (standing_then d.share row n d.fresh (omega arith)) there) i h (stay standing there n (omega arith) i h known is) is
 
 module _ (v w : View) (r : RefParts) (birth : ℕ) (d : HasDrawn v r) (step : w ≡ handed_out v r birth) where
-  pub handed_limbo : LimboStays v w
+  pub handed_limbo : AwayStays v w
   unfolding handed_out
-  handed_limbo = subst (LimboStays v) (sym step) (limbo v r birth d 8 (omega arith))
+  handed_limbo = subst (AwayStays v) (sym step) (limbo v r birth d 8 (omega arith))
+
+  pub handed_moves : AreSameMoves v.own.moves w.own.moves
+  unfolding handed_out
+  handed_moves = subst (λ (x : View). AreSameMoves v.own.moves x.own.moves) (sym step) (moved v r birth d 8 (omega arith))
 
   pub handed_stay : (standing : Standing) → IsThere standing → Stays standing v w
   unfolding handed_out

@@ -12,5 +12,9 @@ pub mod Entries
 pub mod NodeSteps
 pub mod Dids
 pub mod Seats
-mod Owns
-mod StepKeeps
+pub mod Owns
+pub mod StepKeeps
+pub mod MoveCounts
+pub mod ChainCounts
+pub mod Sums
+pub mod CallerSums

@@ -11,7 +11,7 @@ use Rattle.record_memory.specs.declared.books.Standing.TheVariants.{Own, Free, S
 use Rattle.row_words.specs.Refs.{RefParts, LinkParts}
 use Rattle.row_words.specs.declared.links.Chain.{Chain}
 use Rattle.record_rule.specs.Facts.{ShapeFacts, CoverFacts, clean}
-use Rattle.record_rule.specs.Kinds.{share_in, stored, stored_as, share_after, standing_after, idle}
+use Rattle.record_rule.specs.Kinds.{share_in, moves_stored, stored, stored_as, share_after, standing_after, idle}
 use Rattle.record_rule.specs.HandingOut.{IsOwnOf}
 use Rattle.record_rule.specs.Links.{Origin, ExchangedLink, PublishedLink, UnlinkedRecord}
 use Rattle.record_rule.proofs.HandingOut.{known_within}
@@ -21,17 +21,21 @@ use Rattle.record_table.specs.declared.passes.Pass.{Pass}
 use Rattle.record_table.specs.Handles.{view, IsSamePass}
 use Rattle.record_table.specs.Nodes.{IsRefused}
 use Rattle.reclaim_api.specs.Guarding.{IsInside}
-use Rattle.reclaim_api.specs.Frames.{GoesOn, SamePart, in_limbo}
+use Rattle.reclaim_api.specs.Frames.{GoesOn, SamePart, in_away}
 use Rattle.reclaim_api.proofs.Kept.{Stays, chain_stays, goes_on}
 use Rattle.manager.specs.Callers.{HasChains}
-use Rattle.manager.proofs.OneShare.{LimboStays}
+use Rattle.manager.proofs.OneShare.{AwayStays}
+use Rattle.manager.proofs.MoveCounts.{AreSameMoves, same_moves, counted_still}
+use Rattle.manager.specs.declared.types.Moved.{Moved}
+use Rattle.manager.specs.Counted.{AreCounted}
 use Rattle.manager.proofs.Stay.{mine_stays}
 use Rattle.manager.proofs.Entries.{IsAloof, entry_stays, entry_limbo, entry_idle}
 
 -- the step leaves what is in limbo and the records in chains, and the guard is the same or started with it
 pub record LeavesAll (c : CoverFacts) (v w : View) : Type 0 where
   pub guard : GoesOn c v.own.guard w.own.guard
-  pub limbo : LimboStays v w
+  pub away : AwayStays v w
+  pub moves : AreSameMoves v.own.moves w.own.moves
   pub frees : Stays Free v w
   pub spares : Stays Spare v w
   pub idle_is : idle w.own ≡ idle v.own
@@ -51,18 +55,23 @@ module _ {S R L : Type 0} {c : CoverFacts} (is_local : L → View → Type 0) (p
 
   pub chains_still : HasChains is_local p l free spare → HasChains is_local q l free spare
   chains_still h = let records = ap (λ (k : Setup). k.records) same.setup in record {
-    local = stays l (view p) (view q) (record { setup = same.setup; caller = same.caller; guard = leaves.guard; limbo = leaves.limbo }) h.local;
+    local = stays l (view p) (view q) (record { setup = same.setup; caller = same.caller; guard = leaves.guard; away = leaves.away }) h.local;
     frees = chain_stays Free (view p) (view q) records leaves.frees free h.frees;
     spares = chain_stays Spare (view p) (view q) records leaves.spares spare h.spares;
     all = leaves.idle_is ∙ h.all;
   }
 
+-- and its counts are the same
+pub counts_left : (c : CoverFacts) (v w : View) (n : Moved) → LeavesAll c v w → AreCounted n v.own → AreCounted n w.own
+counts_left c v w n leaves h = counted_still v w n leaves.away leaves.moves h
+
 module _ (c : CoverFacts) (v w : View) where
   -- a step that leaves each record
-  pub leaves_records : (t : Step) → GoesOn c v.own.guard w.own.guard → w.own.mine ≡ v.own.mine → w.own.steps ≡ v.own.steps ++ t ∷ [] → LeavesAll c v w
-  leaves_records t guard mine steps = record {
+  pub leaves_records : (t : Step) → GoesOn c v.own.guard w.own.guard → w.own.mine ≡ v.own.mine → w.own.moves ≡ v.own.moves → w.own.steps ≡ v.own.steps ++ t ∷ [] → LeavesAll c v w
+  leaves_records t guard mine moves steps = record {
     guard = guard;
-    limbo = λ i. ap (λ m. in_limbo (get_or m i None)) mine;
+    away = λ i. ap (λ m. in_away (get_or m i None)) mine;
+    moves = same_moves v.own.moves w.own.moves moves;
     frees = mine_stays Free v w mine;
     spares = mine_stays Spare v w mine;
     idle_is = idle_mine v w mine;
@@ -70,10 +79,11 @@ module _ (c : CoverFacts) (v w : View) where
   }
 
   -- one that changes one record, which is in no chain
-  pub leaves_others : (t : Step) (i : ℕ) (old new : Option Share) → share_in v i ≡ old → w.own.mine ≡ set v.own.mine (i - 1) new → i - 1 < length v.own.mine → IsAloof old → IsAloof new → w.own.guard ≡ v.own.guard → w.own.steps ≡ v.own.steps ++ t ∷ [] → LeavesAll c v w
-  leaves_others t i old new was mine within before after guard steps = record {
+  pub leaves_others : (t : Step) (i : ℕ) (old new : Option Share) → share_in v i ≡ old → w.own.mine ≡ set v.own.mine (i - 1) new → i - 1 < length v.own.mine → IsAloof old → IsAloof new → w.own.moves ≡ v.own.moves → w.own.guard ≡ v.own.guard → w.own.steps ≡ v.own.steps ++ t ∷ [] → LeavesAll c v w
+  leaves_others t i old new was mine within before after moves guard steps = record {
     guard = goes_on c v.own.guard w.own.guard guard;
-    limbo = entry_limbo v w i old new was mine within before after;
+    moves = same_moves v.own.moves w.own.moves moves;
+    away = entry_limbo v w i old new was mine within before after;
     frees = entry_stays v w i old new was mine within before after Free (λ x. x);
     spares = entry_stays v w i old new was mine within before after Spare (λ x. x);
     idle_is = entry_idle v w i old new was mine within before after;
@@ -83,29 +93,30 @@ module _ (c : CoverFacts) (v w : View) where
   module _ (s : ShapeFacts) (o : Origin) where
     -- a refused exchange
     refused_leaves : (old link : LinkParts) → IsRefused v o old link w → LeavesAll c v w
-    refused_leaves old link e = leaves_records _ (goes_on c _ _ (ap (λ (x : View). x.own.guard) e.refused.view)) (ap (λ (x : View). x.own.mine) e.refused.view) (ap (λ (x : View). x.own.steps) e.refused.view)
+    refused_leaves old link e = leaves_records _ (goes_on c _ _ (ap (λ (x : View). x.own.guard) e.refused.view)) (ap (λ (x : View). x.own.mine) e.refused.view) (ap (λ (x : View). x.own.moves) e.refused.view) (ap (λ (x : View). x.own.steps) e.refused.view)
 
     -- an exchange of a link
     pub exchange_leaves : {U : Type 0} (old new : LinkParts) (call : Option Call) (r : Result U Found) → MatchResult r (λ _. ExchangedLink s v o 3 old new call w) (λ found. IsRefused v o old found.link w) → LeavesAll c v w
-    exchange_leaves old new call (Ok u) e = leaves_records _ (goes_on c _ _ (ap (λ (x : View). x.own.guard) e.view)) (ap (λ (x : View). x.own.mine) e.view) (ap (λ (x : View). x.own.steps) e.view)
+    exchange_leaves old new call (Ok u) e = leaves_records _ (goes_on c _ _ (ap (λ (x : View). x.own.guard) e.view)) (ap (λ (x : View). x.own.mine) e.view) (ap (λ (x : View). x.own.moves) e.view) (ap (λ (x : View). x.own.steps) e.view)
     exchange_leaves old new call (Err found) e = refused_leaves old found.link e
 
     -- one that links an own record
     pub publish_leaves : {U : Type 0} (old : LinkParts) (own : RefParts) (call : Option Call) → IsOwnOf v own → (r : Result U (RefParts × Found)) → MatchResult r (λ _. PublishedLink s v o 3 old own call w) (λ back. (back.0 ≡ own) × IsRefused v o old back.1.link w) → LeavesAll c v w
     publish_leaves old own call has (Ok u) e = let h = has.1 in leaves_others _ own.index (Some h.share) None h.known (ap (λ (x : View). x.own.mine) e.view) (known_within v.own.mine (own.index - 1) h.share h.known) (subst IsAloof (λ k. Some (record h.share { standing = sym h.standing_is k })) tt) tt
-        (ap (λ (x : View). x.own.guard) e.view) (ap (λ (x : View). x.own.steps) e.view)
+        (ap (λ (x : View). x.own.moves) e.view) (ap (λ (x : View). x.own.guard) e.view) (ap (λ (x : View). x.own.steps) e.view)
     publish_leaves old own call has (Err back) e = refused_leaves old back.1.link e.1
 
     -- one that takes a record out
     pub unlink_leaves : (gone : RefParts) (new : LinkParts) → 0 < v.setup.records → (r : Result RefParts Found) → MatchResult r (λ taken. (taken ≡ gone) × UnlinkedRecord s v o 3 gone new w) (λ found. IsRefused v o (clean gone) found.link w) → LeavesAll c v w
-    unlink_leaves gone new some (Ok taken) e = let u = e.1 in leaves_others _ gone.index None _ u.none (ap (λ (x : View). x.own.mine) u.view) (let a = u.within in let b = u.mine in omega arith) tt tt (ap (λ (x : View). x.own.guard) u.view) (ap (λ (x : View). x.own.steps) u.view)
+    unlink_leaves gone new some (Ok taken) e = let u = e.1 in
+        leaves_others _ gone.index None _ u.none (ap (λ (x : View). x.own.mine) u.view) (let a = u.within in let b = u.mine in omega arith) tt tt (ap (λ (x : View). x.own.moves) u.view) (ap (λ (x : View). x.own.guard) u.view) (ap (λ (x : View). x.own.steps) u.view)
     unlink_leaves gone new some (Err found) e = refused_leaves (clean gone) found.link e
 
   -- a store in an own record
   pub store_leaves : (own : RefParts) (word value : ℕ) → IsOwnOf v own → w ≡ stored v own.index word value → LeavesAll c v w
   store_leaves own word value has e = let h = has.1 in let is = e ∙ ap (stored_as v own.index word value) h.known in
       leaves_others _ own.index (Some h.share) _ h.known (ap (λ (x : View). x.own.mine) is) (known_within v.own.mine (own.index - 1) h.share h.known) (subst IsAloof (λ k. Some (record h.share { standing = sym h.standing_is k })) tt) (after h.share h.standing_is)
-      (ap (λ (x : View). x.own.guard) is) (ap (λ (x : View). x.own.steps) is)
+      (ap (λ (x : View). x.own.moves) is ∙ ap (λ q. moves_stored q v.own.moves) h.standing_is) (ap (λ (x : View). x.own.guard) is) (ap (λ (x : View). x.own.steps) is)
     where
       after : (h : Share) → h.standing ≡ Own → IsAloof (Some (share_after h word value))
       after h own_is = subst (λ (q : Standing). IsAloof (Some (record h { standing = standing_after q; words = set h.words word value }))) (sym own_is) tt

@@ -13,9 +13,16 @@ use Rattle.manager.proofs.OneShare.{here}
 use Rattle.manager.proofs.Stay.{mine_stays}
 
 module _ (v w : View) (records : w.setup.records ≡ v.setup.records) where
-  -- one of which the same is known
+  -- one of which the same is known has the same row
+  row_at : (r : RefParts) (row : List ℕ) (h : HasOwn v r row) → share_in w r.index ≡ Some h.share → HasOwn w r row
+  row_at r row h known = record { within = subst (λ (n : ℕ). r.index ≤ n) (sym records) h.within; share = h.share; known = known; standing_is = h.standing_is; generation = h.generation; row_is = h.row_is; eight = h.eight }
+
+  -- as after a step that leaves the caller's book of its records, such as a refused exchange
+  pub row_stays : w.own.mine ≡ v.own.mine → (r : RefParts) (row : List ℕ) → HasOwn v r row → HasOwn w r row
+  row_stays mine r row h = row_at r row h (ap (λ l. get_or l (r.index - 1) None) mine ∙ h.known)
+
   own_at : (r : RefParts) (row : List ℕ) (h : HasOwn v r row) → share_in w r.index ≡ Some h.share → IsOwnOf w r
-  own_at r row h known = (row, record { within = subst (λ (n : ℕ). r.index ≤ n) (sym records) h.within; share = h.share; known = known; standing_is = h.standing_is; generation = h.generation; row_is = h.row_is; eight = h.eight })
+  own_at r row h known = (row, row_at r row h known)
 
   -- all that stay in the caller's book
   pub owns_stay : Stays Own v w → KeepsOwn v w
@@ -61,3 +68,15 @@ module _ (v w : View) (own : RefParts) (word value : ℕ) (has : IsOwnOf v own) 
           eight = length-set old.words word value ∙ ap (λ (l : List ℕ). length l) has.1.row_is ∙ has.1.eight;
         },
       )
+
+-- the record has the stored word from then on
+pub row_stored : (v w : View) (own : RefParts) (row : List ℕ) (word value : ℕ) → HasOwn v own row → w ≡ stored v own.index word value → HasOwn w own (set row word value)
+row_stored v w own row word value h step = let is : w ≡ stored_as v own.index word value (Some h.share) = step ∙ ap (stored_as v own.index word value) h.known in record {
+  within = subst (λ (x : View). own.index ≤ x.setup.records) (sym is) h.within;
+  share = share_after h.share word value;
+  known = here v w own.index h.share (share_after h.share word value) h.known (ap (λ (x : View). x.own.mine) is);
+  standing_is = ap standing_after h.standing_is;
+  generation = h.generation;
+  row_is = ap (λ (l : List ℕ). set l word value) h.row_is;
+  eight = length-set row word value ∙ h.eight;
+}

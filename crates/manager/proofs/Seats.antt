@@ -1,5 +1,5 @@
 -- The callers of passes that made no step, in order.
-use Rattle.std.proofs.Common.{◌≡◌, ℕ, zero, suc, ◌+◌, ◌<◌, length, List, [], ◌∷◌, ◌++◌, map, All, cond, false, replicate, None, Option, sym, refl, ap, ◌∙◌, arith}
+use Rattle.std.proofs.Common.{◌≡◌, ℕ, zero, suc, ◌+◌, ◌<◌, length, List, [], ◌∷◌, ◌++◌, map, All, cond, Bool, false, replicate, None, Option, sym, refl, ap, ◌∙◌, arith}
 use Rattle.std.specs.List.{count_by}
 use Rattle.std.proofs.lemmas.List.{reverse-append, append_assoc}
 use Rattle.std.proofs.lemmas.List.Sums.{sum_by-cons}
@@ -18,6 +18,10 @@ use Rattle.record_table.specs.Closing.{own_caller, numbers_from}
 use Rattle.record_table.specs.Made.{IsFresh, AreFreshFrom}
 use Rattle.record_table.proofs.Closings.{tail_fresh}
 use Rattle.manager.specs.declared.types.Caller.{Caller}
+use Rattle.record_memory.specs.declared.books.Standing.{Standing}
+use Rattle.record_rule.specs.Standings.{is_limbo, is_spent}
+use Rattle.reclaim_api.specs.Frames.{is_as, had}
+use Rattle.manager.specs.Counted.{shown, AreCounted}
 use Rattle.manager.specs.Made.{passes_of}
 
 -- of records that a caller doesn't have none is idle
@@ -29,6 +33,25 @@ none_idle (suc n) = let e = sum_by-cons (λ (x : Option Share). cond (is_idle x)
 pub fresh_idle : (setup : Setup) (first : Guard) (c : ℕ) (v : View) → IsFresh setup first c v → idle v.own ≡ 0
 unfolding idle
 fresh_idle setup first c v f = ap (λ (b : Book). count_by is_idle b.mine) f.own ∙ none_idle setup.records
+
+-- it has none in any way
+none_had : (test : Standing → Bool) (n : ℕ) → count_by (is_as test) (replicate n None) ≡ 0
+none_had test zero = refl
+none_had test (suc n) = let e = sum_by-cons (λ (x : Option Share). cond (is_as test x) 1 0) None (replicate n None) in let h = none_had test n in omega arith
+
+fresh_had : (test : Standing → Bool) (setup : Setup) (first : Guard) (c : ℕ) (v : View) → IsFresh setup first c v → had test v.own ≡ 0
+fresh_had test setup first c v f = ap (λ (b : Book). had test b) f.own ∙ none_had test setup.records
+
+-- so all its counts are 0
+pub fresh_counted : (setup : Setup) (first : Guard) (c : ℕ) (v : View) → IsFresh setup first c v → AreCounted (record { drawn = 0; reused = 0; retired = 0; freed = 0; spent = 0 }) v.own
+fresh_counted setup first c v f = record {
+  drawn = ap (λ (b : Book). shown b.moves.drawn) (sym f.own);
+  reused = ap (λ (b : Book). shown b.moves.reused) (sym f.own);
+  retired = ap (λ (b : Book). shown b.moves.retired) (sym f.own);
+  freed = ap (λ (b : Book). shown b.moves.freed) (sym f.own);
+  spent = ap shown (sym (fresh_had is_spent setup first c v f));
+  limbo = let a = fresh_had is_limbo setup first c v f in let d = ap (λ (b : Book). b.moves.freed) f.own in let e = ap (λ (b : Book). b.moves.retired) f.own in omega arith;
+}
 
 module _ {S R : Type 0} (t : Table S R) (first : Guard) where
   -- it is outside, and made no step

@@ -22,10 +22,10 @@ use Rattle.record_rule.specs.Makes.{Makes}
 use Rattle.record_rule.proofs.Makes.{makes_one}
 use Rattle.record_rule.proofs.TakesFree.{read_with}
 use Rattle.reclaim_api.specs.Chained.{IsAs, IsChainOf, refs_in}
-use Rattle.reclaim_api.specs.Frames.{limbo_as}
+use Rattle.reclaim_api.specs.Frames.{away_as}
 use Rattle.reclaim_api.proofs.Kept.{Stays, chain_stays, row_stays, as_stays}
 use Rattle.manager.specs.Callers.{KeepsOwnBut}
-use Rattle.manager.proofs.OneShare.{LimboStays, here, others_stay, limbo_stays}
+use Rattle.manager.proofs.OneShare.{AwayStays, here, others_stay, limbo_stays}
 use Rattle.manager.proofs.Owns.{owns_but}
 
 -- the chain's first record, where it has one, is in range
@@ -60,8 +60,12 @@ module _ (v w : View) (chain after : Chain) (r : RefParts) (row : List ℕ) (lis
   pushed_makes = makes_one v w (field_store v r.index 1 value was) _ _ pushed_is refl refl
 
   -- and none comes into limbo
-  pub pushed_limbo : LimboStays v w
-  pushed_limbo = limbo_stays v w r.index was is own.known pushed_mine (ap (limbo_as was) own.standing_is) refl
+  pub pushed_limbo : AwayStays v w
+  pushed_limbo = limbo_stays v w r.index was is own.known pushed_mine (ap (away_as was) own.standing_is) refl
+
+  -- no record was moved but so
+  pub pushed_moves : w.own.moves ≡ v.own.moves
+  pushed_moves = ap (λ (x : View). x.own.moves) pushed_is
 
   pushed_records : w.setup.records ≡ v.setup.records
   pushed_records = ap (λ (x : View). x.setup.records) pushed_is

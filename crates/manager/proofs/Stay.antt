@@ -1,5 +1,5 @@
 -- A caller after a call of its reclaimer, or after steps of its own.
-use Rattle.std.proofs.Common.{◌≡◌, ◌+◌, ◌-◌, List, ◌++◌, length, length-append, get_or, None, ap, ◌∙◌, arith}
+use Rattle.std.proofs.Common.{◌≡◌, ◌+◌, ◌-◌, List, ◌++◌, length, length-append, get_or, None, ap, ◌∙◌, sym, subst, arith}
 use Rattle.record_memory.specs.declared.steps.Step.{Step}
 use Rattle.record_memory.specs.declared.books.Book.{Book}
 use Rattle.record_memory.specs.declared.books.View.{View}
@@ -16,12 +16,14 @@ use Rattle.record_table.specs.declared.passes.Pass.{Pass}
 use Rattle.record_table.specs.Handles.{view, IsSamePass}
 use Rattle.reclaim_api.specs.Chained.{IsChainOf}
 use Rattle.reclaim_api.specs.Guarding.{IsInside}
-use Rattle.reclaim_api.specs.Frames.{SamePart, in_limbo, LeavesRecords, FreesInto}
+use Rattle.reclaim_api.specs.Frames.{SamePart, in_away, LeavesRecords, FreesInto}
 use Rattle.reclaim_api.specs.Holds.{KeepsHeld}
 use Rattle.reclaim_api.proofs.Kept.{Stays, chain_stays, goes_on}
 use Rattle.reclaim_api.proofs.Keeping.{keeps_same}
+use Rattle.manager.specs.declared.types.Moved.{Moved}
+use Rattle.manager.specs.Counted.{AreCounted}
 use Rattle.manager.specs.Callers.{HasChains, IsResting, AnswersNone}
-use Rattle.manager.proofs.OneShare.{LimboStays}
+use Rattle.manager.proofs.OneShare.{AwayStays}
 
 -- records of which the caller knows the same stay
 pub mine_stays : (standing : Standing) (v w : View) → w.own.mine ≡ v.own.mine → Stays standing v w
@@ -67,24 +69,25 @@ module _ {S R : Type 0} (p q : Pass S R) (same : IsSamePass p q) (steps : List S
   answers_after = record { answered = ap (λ (v : View). v.own.answered) made.rest; front = ap (λ (v : View). v.front) made.rest }
 
   -- its chains are what these steps make of them
-  pub chains_after : {L : Type 0} {c : CoverFacts} (is_local : L → View → Type 0) (l : L) (free spare free' spare' : Chain) → ((l : L) (v w : View) → SamePart c v w → is_local l v → is_local l w) → HasChains is_local p l free spare → LimboStays (view p) (view q)
+  pub chains_after : {L : Type 0} {c : CoverFacts} (is_local : L → View → Type 0) (l : L) (free spare free' spare' : Chain) → ((l : L) (v w : View) → SamePart c v w → is_local l v → is_local l w) → HasChains is_local p l free spare → AwayStays (view p) (view q)
       → IsChainOf Free (view q) free' → IsChainOf Spare (view q) spare' → idle (view q).own ≡ free'.count + spare'.count → HasChains is_local q l free' spare'
   chains_after {c = c} is_local l free spare free' spare' stays h limbo frees spares all = record {
-    local = stays l (view p) (view q) (record { setup = same.setup; caller = same.caller; guard = goes_on c (view p).own.guard (view q).own.guard (ap (λ (v : View). v.own.guard) made.rest); limbo = limbo }) h.local;
+    local = stays l (view p) (view q) (record { setup = same.setup; caller = same.caller; guard = goes_on c (view p).own.guard (view q).own.guard (ap (λ (v : View). v.own.guard) made.rest); away = limbo }) h.local;
     frees = frees;
     spares = spares;
     all = all;
   }
 
 -- a caller whose own book stays rests as before
-pub rests_still : {S R L : Type 0} {c : CoverFacts} (is_local : L → View → Type 0) (p q : Pass S R) (l : L) (free spare : Chain) (same : IsSamePass p q) → ((l : L) (v w : View) → SamePart c v w → is_local l v → is_local l w) → (view q).own ≡ (view p).own
-    → IsResting is_local (record { pass = p; local = l; free = free; spare = spare }) → IsResting is_local (record { pass = q; local = l; free = free; spare = spare })
-rests_still {c = c} is_local p q l free spare same stays own h = record {
+pub rests_still : {S R L : Type 0} {c : CoverFacts} (is_local : L → View → Type 0) (p q : Pass S R) (l : L) (free spare : Chain) (n : Moved) (same : IsSamePass p q) → ((l : L) (v w : View) → SamePart c v w → is_local l v → is_local l w) → (view q).own ≡ (view p).own
+    → IsResting is_local (record { pass = p; local = l; free = free; spare = spare; moved = n }) → IsResting is_local (record { pass = q; local = l; free = free; spare = spare; moved = n })
+rests_still {c = c} is_local p q l free spare n same stays own h = record {
   outside = ap (λ x. x.value) same.inside ∙ h.outside;
   chains = record {
-    local = stays l (view p) (view q) (record { setup = same.setup; caller = same.caller; guard = goes_on c (view p).own.guard (view q).own.guard (ap (λ (b : Book). b.guard) own); limbo = λ i. ap (λ (b : Book). in_limbo (get_or b.mine i None)) own }) h.chains.local;
+    local = stays l (view p) (view q) (record { setup = same.setup; caller = same.caller; guard = goes_on c (view p).own.guard (view q).own.guard (ap (λ (b : Book). b.guard) own); away = λ i. ap (λ (b : Book). in_away (get_or b.mine i None)) own }) h.chains.local;
     frees = chain_stays Free (view p) (view q) (ap (λ (k : Setup). k.records) same.setup) (mine_stays Free (view p) (view q) (ap (λ (b : Book). b.mine) own)) free h.chains.frees;
     spares = chain_stays Spare (view p) (view q) (ap (λ (k : Setup). k.records) same.setup) (mine_stays Spare (view p) (view q) (ap (λ (b : Book). b.mine) own)) spare h.chains.spares;
     all = ap (λ (b : Book). idle b) own ∙ h.chains.all;
   };
+  counts = subst (AreCounted n) (sym own) h.counts;
 }

@@ -12,10 +12,11 @@ use Rattle.record_rule.specs.TakesFree.{HasFree, renewed, TookFree}
 use Rattle.record_rule.specs.Makes.{Makes}
 use Rattle.record_rule.proofs.Makes.{makes_one}
 use Rattle.reclaim_api.specs.Chained.{IsAs, IsChainOf}
-use Rattle.reclaim_api.specs.Frames.{limbo_as}
+use Rattle.reclaim_api.specs.Frames.{away_as}
 use Rattle.reclaim_api.proofs.Kept.{chain_stays}
-use Rattle.manager.proofs.OneShare.{LimboStays, others_stay, limbo_stays}
+use Rattle.manager.proofs.OneShare.{AwayStays, others_stay, limbo_stays}
 use Rattle.manager.specs.Callers.{KeepsOwn}
+use Rattle.manager.proofs.MoveCounts.{AreSameMoves}
 use Rattle.manager.proofs.Owns.{owns_stay}
 use Rattle.manager.proofs.Pops.{first_as, popped_list}
 
@@ -50,6 +51,9 @@ module _ (v w : View) (chain after : Chain) (r : RefParts) (list : IsChainOf Spa
     taken_mine : w.own.mine ≡ set v.own.mine (r.index - 1) (Some is)
     taken_mine = ap (λ (x : View). x.own.mine) taken_is
 
+    pub taken_moves : AreSameMoves v.own.moves w.own.moves
+    taken_moves = record { drawn = ap (λ (x : View). x.own.moves.drawn) taken_is; reused = ap (λ (x : View). x.own.moves.reused) taken_is; retired = ap (λ (x : View). x.own.moves.retired) taken_is; freed = ap (λ (x : View). x.own.moves.freed) taken_is }
+
     records : w.setup.records ≡ v.setup.records
     records = ap (λ (x : View). x.setup.records) taken_is
 
@@ -58,8 +62,8 @@ module _ (v w : View) (chain after : Chain) (r : RefParts) (list : IsChainOf Spa
     taken_makes = makes_one v w (field_load v r.index 1 n) _ _ taken_is refl refl
 
     -- what is in limbo stays
-    pub taken_limbo : LimboStays v w
-    taken_limbo = limbo_stays v w r.index was is spare_as.owns.known taken_mine (ap (limbo_as was) spare_as.standing_is) refl
+    pub taken_limbo : AwayStays v w
+    taken_limbo = limbo_stays v w r.index was is spare_as.owns.known taken_mine (ap (away_as was) spare_as.standing_is) refl
 
     -- and so do the free ones
     pub taken_free : (free : Chain) → IsChainOf Free v free → IsChainOf Free w free
@@ -101,8 +105,8 @@ module _ (v w : View) (chain after : Chain) (r : RefParts) (list : IsChainOf Fre
     again_makes = makes_one v w (field_load v r.index 1 (get_or told.row 1 0)) _ _ told.view refl refl
 
     -- what is in limbo stays
-    pub again_limbo : LimboStays v w
-    again_limbo = limbo_stays v w r.index old new told.was.known again_mine (ap (limbo_as old) told.was.free) refl
+    pub again_away : AwayStays v w
+    again_away = limbo_stays v w r.index old new told.was.known again_mine (ap (away_as old) told.was.free) refl
 
     -- and so do the spare ones
     pub again_spare : (spare : Chain) → IsChainOf Spare v spare → IsChainOf Spare w spare

@@ -11,6 +11,7 @@ use Rattle.record_rule.specs.Kinds.{idle}
 use Rattle.reclaim_api.specs.Chained.{IsChainOf}
 use Rattle.reclaim_api.specs.Guarding.{IsInside}
 use Rattle.manager.specs.declared.types.Caller.{Caller}
+use Rattle.manager.specs.Counted.{AreCounted}
 
 -- its local part is its own, and its two chains are lists through word 1 of just its free and its spare records
 pub record HasChains {S R L : Type 0} (is_local : L → View → Type 0) (p : Pass S R) (l : L) (fs ss : Chain) : Type 0 where
@@ -28,11 +29,13 @@ module _ {S R L : Type 0} (is_local : L → View → Type 0) where
   pub record IsWorking (c : Caller S R L) : Type 0 where
     pub inside : IsInside c.pass
     pub chains : Chains c
+    pub counts : AreCounted c.moved (view c.pass).own
 
   -- it isn't
   pub record IsResting (c : Caller S R L) : Type 0 where
     pub outside : is_inside c.pass ≡ false
     pub chains : Chains c
+    pub counts : AreCounted c.moved (view c.pass).own
 
 -- no call was answered, and of no update it is known that it comes before
 pub record AnswersNone (v w : View) : Type 0 where

@@ -2,3 +2,4 @@ pub mod Callers
 pub mod Manners
 pub mod Guards
 pub mod Made
+pub mod Counted

@@ -9,6 +9,7 @@ ghost use Rattle.reclaim_api.specs.Frames.{LeavesRest, LeavesRecords};
 ghost use Rattle.reclaim_api.specs.Holds.{IsElsewhere, HasReached, KeepsElse};
 ghost use Rattle.manager.specs.Callers.{IsWorking, IsResting};
 
+use crate::counting::raised;
 use crate::types::Caller;
 use reclaim_api::{Holding, Scheme};
 use record_table::{Node, Shape, Table};
@@ -23,7 +24,9 @@ pub(crate) fn enter<S: Shape, R: Scheme>(table: &Table<S, R>, caller: &mut Calle
     ensures rest { LeavesRest (view caller.old.pass) (view caller.new.pass) }
     ensures does { (f : Freed) × R.enters (setup_of table.now) (view caller.old.pass).own f (view caller.new.pass).own }
 {
-    R::enter(table, &mut caller.pass, &mut caller.local, &mut caller.free);
+    let left = R::enter(table, &mut caller.pass, &mut caller.local, &mut caller.free);
+    caller.moved.freed = raised(caller.moved.freed, left.freed);
+    caller.moved.spent = raised(caller.moved.spent, left.spent);
 }
 
 pub(crate) fn leave<S: Shape, R: Scheme>(table: &Table<S, R>, caller: &mut Caller<S, R>)

@@ -8,6 +8,7 @@
 #![tactic(auto)]
 
 mod callers;
+mod counting;
 mod guard;
 mod making;
 mod meeting;

@@ -4,9 +4,9 @@ ghost use Rattle.record_table.specs.Handles.{setup_of, view, is_inside, IsPassOf
 ghost use Rattle.record_table.specs.Made.{IsFresh, AreFreshPasses, setup_with, AreBadRecords, AreBadCallers};
 ghost use Rattle.record_table.specs.Closing.{closed_setup, closed_books, own_book, AreAllPasses, IsClosedBy};
 ghost use Rattle.manager.specs.Callers.{IsResting};
-ghost use Rattle.manager.specs.Made.{passes_of};
+ghost use Rattle.manager.specs.Made.{passes_of, AreAddedUp};
 
-use crate::types::{Caller, Manager};
+use crate::types::{Caller, Manager, Moved};
 use alloc_api::Allocator;
 use pool::Pool;
 use reclaim_api::Scheme;
@@ -28,6 +28,13 @@ fn seat<S: Shape, R: Scheme>(table: &Table<S, R>, pass: Pass<S, R>) -> Caller<S,
         local,
         free: Chain::new(),
         spare: Chain::new(),
+        moved: Moved {
+            drawn: 0,
+            reused: 0,
+            retired: 0,
+            freed: 0,
+            spent: 0,
+        },
     }
 }
 
@@ -82,12 +89,15 @@ impl<S: Shape, R: Scheme, A: Allocator, P: Pool> Manager<S, R, A, P> {
         }
     }
 
-    /// Closes the table. `callers` has every caller of this manager in order of number.
+    /// Closes the table. `callers` has every caller of this manager in order of number. Over all callers and
+    /// shelves, as many records were freed as were reused, are free and are spent, and as many are in limbo as
+    /// were retired and not freed.
     pub fn close(self, mut callers: Vec<Caller<S, R>>) -> Closed
         requires { AreAllPasses self.table (passes_of callers.items) }
         ensures setup { closed_setup result ≡ setup_of self.table }
         ensures books { closed_books result ≡ map own_book (passes_of callers.items) }
         ensures fits { IsClosedBy S.facts R.facts result }
+        ensures moves { AreAddedUp result }
     {
         let Manager { table, marker: _ } = self;
         callers.reverse();

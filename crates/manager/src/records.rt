@@ -15,6 +15,7 @@ ghost use Rattle.pool.specs.declared.Taken.TheVariants.{Some as Took, None as Fo
 ghost use Rattle.manager.specs.Manners.{manner};
 ghost use Rattle.manager.specs.Callers.{IsWorking, AnswersNone, KeepsOwn, KeepsOwnBut};
 
+use crate::counting::raised;
 use crate::types::Caller;
 use alloc_api::{Allocator, NoRecord};
 use pool::{Pool, Taken};
@@ -79,13 +80,16 @@ pub(crate) fn put_away<S: Shape, R: Scheme>(
     ensures owns { KeepsOwn (view caller.old.pass) (view caller.new.pass) }
     ensures does { (f : Freed) × R.puts_away (setup_of table.now) (view caller.old.pass).own taken f (view caller.new.pass).own }
 {
-    R::put_away(
+    let left = R::put_away(
         table,
         &mut caller.pass,
         &mut caller.local,
         taken,
         &mut caller.free,
     );
+    caller.moved.retired = raised(caller.moved.retired, 1);
+    caller.moved.freed = raised(caller.moved.freed, left.freed);
+    caller.moved.spent = raised(caller.moved.spent, left.spent);
 }
 
 // A record that was never handed out.
@@ -104,7 +108,9 @@ fn draw<S: Shape, R: Scheme, A: Allocator>(
     ensures drawn { MatchResult result (λ r. HasDrawn (view caller.new.pass) r) (λ _. Unit {0}) }
     ensures does { MatchResult result (λ r. A.draws (view caller.old.pass) r (view caller.new.pass)) (λ none. A.refuses (view caller.old.pass) none.found (view caller.new.pass)) }
 {
-    A::draw(table, &mut caller.pass)
+    let r = A::draw(table, &mut caller.pass)?;
+    caller.moved.drawn = raised(caller.moved.drawn, 1);
+    Ok(r)
 }
 
 // The first free record, to be handed out at its next generation.
@@ -123,6 +129,7 @@ fn take_free<S: Shape, R: Scheme>(table: &Table<S, R>, caller: &mut Caller<S, R>
     let (r, next) = table.take_free(&mut caller.pass, first);
     caller.free.head = next;
     caller.free.count -= 1;
+    caller.moved.reused = raised(caller.moved.reused, 1);
     Some(r)
 }
 

@@ -162,7 +162,7 @@ pub(crate) fn place<S: Shape, R: Scheme>(
     ensures owns { KeepsOwn (view caller.old.pass) (view caller.new.pass) }
     ensures placed { (position : ℕ) × (found : ℕ) × MayPlaceIn S.facts (view caller.old.pass) position call reply × (view caller.new.pass ≡ placed_view (view caller.old.pass) 0 found position call reply) }
 {
-    table.place_read(&mut caller.pass, call, reply);
+    set_history::place(table, &mut caller.pass, call, reply);
 }
 
 pub(crate) fn store_own<S: Shape, R: Scheme>(

@@ -17,6 +17,17 @@ pub struct Manager<S: Shape, R: Scheme, A: Allocator, P> {
     pub ghost allocator: { (setup_of table).allocator ≡ A.NAME },
 }
 
+/// How many moves of records a caller made over all its steps, and how many of its records are spent. Each
+/// count stands still at its type's end.
+#[derive(Clone, Copy)]
+pub(crate) struct Moved {
+    pub(crate) drawn: u64,
+    pub(crate) reused: u64,
+    pub(crate) retired: u64,
+    pub(crate) freed: u64,
+    pub(crate) spent: u64,
+}
+
 /// One caller of a manager's table.
 #[derive(Drop)]
 pub struct Caller<S: Shape, R: Scheme> {
@@ -25,6 +36,7 @@ pub struct Caller<S: Shape, R: Scheme> {
     // Its free records, and the own ones that it set aside.
     pub(crate) free: Chain,
     pub(crate) spare: Chain,
+    pub(crate) moved: Moved,
 }
 
 /// An operation of a caller, from `begin` to `finish`, which must spend it.

@@ -1,7 +1,6 @@
 -- What one call leaves of what a pass holds and knows.
-use Rattle.std.proofs.Common.{◌≡◌, ◌≢◌, ◌⊎◌, ⊎_elim, ℕ, zero, suc, ◌+◌, ◌<◌, ◌≤◌, List, [], ◌∷◌, length, get_or, set, length-set, Bool, true, false, ◌&&◌, Option, Some, None, sym, refl, ap, ◌∙◌, subst, arith}
+use Rattle.std.proofs.Common.{◌≡◌, ◌≢◌, ◌⊎◌, ⊎_elim, ℕ, ◌+◌, ◌<◌, ◌≤◌, List, [], ◌∷◌, length, Bool, true, false, ◌&&◌, Option, Some, None, sym, refl, ap, ◌∙◌, subst}
 use native.Mathlib.Decide.{ℕ_discrete}
-use Rattle.atomic_table.proofs.Lists.{set_here, set_else}
 use Rattle.set_model.specs.declared.calls.Call.{Call}
 use Rattle.set_model.specs.declared.calls.Update.{Update}
 use Rattle.record_memory.specs.declared.books.Guard.{Guard}
@@ -12,43 +11,15 @@ use Rattle.row_words.specs.Refs.{RefParts, LinkParts}
 use Rattle.record_rule.specs.Facts.{At, ShapeFacts, CoverFacts, FitsNote}
 use Rattle.record_rule.specs.Guards.{started_if}
 use Rattle.record_rule.specs.Laws.{with_update}
-use Rattle.record_rule.specs.Opening.{no_note}
 use Rattle.record_rule.specs.World.{StartsWith}
-use Rattle.record_rule.specs.Links.{Origin, from_root, from_place, near_of, FitsBody, note_in, note_word, noting, own_update, LoadedLink, ExchangedLink, PublishedLink, UnlinkedRecord}
-use Rattle.record_rule.proofs.Lists.{below_at}
+use Rattle.record_rule.specs.Links.{Origin, from_root, from_place, near_of, FitsBody, note_in, noting, own_update, LoadedLink, ExchangedLink, PublishedLink, UnlinkedRecord}
 use Rattle.record_rule.proofs.Rebuilt.{starts_itself, starts_more, starts_then}
 use Rattle.record_table.specs.declared.passes.Pass.{Pass}
 use Rattle.record_table.specs.Handles.{view, since}
 use Rattle.record_table.specs.Nodes.{HasStarted, is_first}
 use Rattle.record_table.proofs.Started.{later_load}
 use Rattle.reclaim_api.specs.Holds.{IsElsewhere, KeepsSome, KeepsHeld, KeepsButLink}
-
--- a fact of an entry, after one was set where the list is that long
-got_set_any : {A : Type 0} (P : A → Type 0) (l : List A) (i j : ℕ) (a d : A) → P (get_or l j d) → (j ≡ i → P a) → P (get_or (set l i a) j d)
-got_set_any P [] i j a d else here = else
-got_set_any P (x ∷ xs) zero zero a d else here = here refl
-got_set_any P (x ∷ xs) zero (suc j) a d else here = else
-got_set_any P (x ∷ xs) (suc i) zero a d else here = else
-got_set_any P (x ∷ xs) (suc i) (suc j) a d else here = got_set_any P xs i j a d else (λ e. here (ap suc e))
-
--- a word of a note is kept by a step that leaves this word of the node's link, where it isn't that of the link or was the same
-noted_word : (note : Note) (n f m : ℕ) → (f ≡ 0 → m ≡ n) → At note.words f (Some m) → At (note_word note 3 n).words f (Some m)
-noted_word note n f m same at = by (ℕ_discrete f 0)
-  where
-    by : Dec (f ≡ 0) → At (set note.words 0 (Some n)) f (Some m)
-    by (yes e) = subst (λ (z : ℕ × ℕ). At (set note.words 0 (Some n)) z.0 (Some z.1)) (λ k. (sym e k, sym (same e) k)) (set_here note.words 0 (Some n) (let b = below_at note.words f (Some m) at in omega arith))
-    by (no ne) = set_else note.words 0 f (Some n) ne ∙ at
-
-noting_keeps : (b : Bool) (notes : List Note) (o : Origin) (n place f m : ℕ) → (f ≡ 0 → ¬ IsElsewhere o place → m ≡ n) → At (note_in notes place).words f (Some m) → At (note_in (noting b notes o 3 n) place).words f (Some m)
-noting_keeps false notes o n place f m same at = at
-noting_keeps true notes (from_root k) n place f m same at = at
-noting_keeps true notes (from_place p r) n place f m same at = got_set_any (λ (x : Note). At x.words f (Some m)) notes p place (note_word (note_in notes p) 3 n) no_note at (λ e. noted_word (note_in notes p) n f m (λ z. same z (λ ne. ne e)) (subst (λ k. At (note_in notes k).words f (Some m)) e at))
-
--- and each note has as many words
-noting_long : (b : Bool) (notes : List Note) (o : Origin) (n place : ℕ) → length (note_in (noting b notes o 3 n) place).words ≡ length (note_in notes place).words
-noting_long false notes o n place = refl
-noting_long true notes (from_root k) n place = refl
-noting_long true notes (from_place p r) n place = got_set_any (λ (x : Note). length x.words ≡ length (note_in notes place).words) notes p place (note_word (note_in notes p) 3 n) no_note refl (λ e. length-set (note_in notes p).words 0 (Some n) ∙ ap (λ k. length (note_in notes k).words) (sym e))
+use Rattle.reclaim_api.proofs.Noting.{noting_keeps, noting_long}
 
 -- a guard that started holds this much still
 pub record GoesOnAt (places : ℕ → Type 0) (g h : Guard) : Type 0 where
@@ -144,7 +115,8 @@ module _ {S R : Type 0} where
           notes = ap (λ (v : View). v.own.notes) told.view
 
           guard : HasStarted p → (view q).own.guard ≡ (view p).own.guard
-          guard h = ap (λ (v : View). v.own.guard) told.view ∙ ap (λ (b : Bool). started_if b (record { epoch = told.epoch; taken_out = length (view q).seen_taken_out; updates = length (view q).seen_updates }) (view p).own.guard (length (view p).own.steps + 1)) (never c.begins_loading (is_first p) (later_load p h))
+          guard h = ap (λ (v : View). v.own.guard) told.view
+              ∙ ap (λ (b : Bool). started_if b (record { epoch = told.epoch; taken_out = length (view q).seen_taken_out; updates = length (view q).seen_updates }) (view p).own.guard (length (view p).own.steps + 1)) (never c.begins_loading (is_first p) (later_load p h))
             where
               never : (a b : Bool) → b ≡ false → (a && b) ≡ false
               never true b e = e

@@ -1,5 +1,5 @@
 -- Chains that stay the same lists, and records that stay.
-use Rattle.std.proofs.Common.{Bool, true, false, ◌&&◌, ◌≡◌, ◌≢◌, ℕ, ◌-◌, ◌≤◌, [], append-nil, get_or, get_or-set_same, get_or-set_other, sym, refl, ap, ◌∙◌, subst, Option, Some, None}
+use Rattle.std.proofs.Common.{arith, Bool, true, false, ◌&&◌, ◌≡◌, ◌≢◌, ℕ, ◌-◌, ◌≤◌, [], append-nil, get_or, get_or-set_same, get_or-set_other, sym, refl, ap, ◌∙◌, subst, Option, Some, None}
 use native.Mathlib.Decide.{ℕ_discrete}
 use Rattle.std.proofs.lemmas.List.Elements.{All-weaker}
 use Rattle.record_memory.specs.declared.books.Book.{Book}
@@ -15,14 +15,15 @@ use Rattle.limbo_bags.proofs.Chains.{chain_kept}
 use Rattle.record_rule.specs.Facts.{CoverFacts}
 use Rattle.record_rule.specs.Guards.{started_if}
 use Rattle.record_rule.specs.Kinds.{share_in, is_idle_as, is_idle, idle}
-use Rattle.record_rule.proofs.Lists.{counts_same}
+use Rattle.record_rule.specs.Standings.{is_limbo, is_spent}
+use Rattle.record_rule.proofs.Lists.{counts_same, counts_more}
 use Rattle.record_rule.specs.Links.{HasTaken, retired_with, retired_share}
 use Rattle.record_rule.proofs.HandingOut.{known_within}
 use Rattle.record_rule.specs.HandingOut.{IsOwnOf}
 use Rattle.record_rule.specs.ChainRows.{row_in, row_of_share}
 use Rattle.record_rule.proofs.TakesFree.{read_with}
 use Rattle.reclaim_api.specs.Chained.{IsAs, IsChainOf, refs_in}
-use Rattle.reclaim_api.specs.Frames.{GoesOn, AddsSteps, rest_as, in_rest, LeavesRestBut}
+use Rattle.reclaim_api.specs.Frames.{GoesOn, AddsSteps, rest_as, in_rest, is_as, had, IsLimboLeft, LeavesRestBut}
 
 -- what is known of the records with this standing
 abbrev pub Stays : Standing → View → View → Type 0
@@ -136,6 +137,13 @@ module _ (v : View) (r : RefParts) (share : Share) (value : ℕ) (taken : HasTak
   unfolding idle
   retired_idle = counts_same is_idle v.own.mine (r.index - 1) (Some (retired_share share value)) None (known_within v.own.mine (r.index - 1) share taken.known)
       (sym (ap is_idle taken.known ∙ ap (λ (q : Standing). is_idle_as q) taken.standing))
+
+  -- one more is in limbo, and as many are spent
+  pub retired_limbo : IsLimboLeft v.own → IsLimboLeft (retired_with v r share value).own
+  retired_limbo left = let more = counts_more (is_as is_limbo) v.own.mine (r.index - 1) (Some (retired_share share value)) None (known_within v.own.mine (r.index - 1) share taken.known) (ap (is_as is_limbo) taken.known ∙ ap is_limbo taken.standing) refl in omega arith
+
+  pub retired_spent : had is_spent (retired_with v r share value).own ≡ had is_spent v.own
+  retired_spent = counts_same (is_as is_spent) v.own.mine (r.index - 1) (Some (retired_share share value)) None (known_within v.own.mine (r.index - 1) share taken.known) (sym (ap (is_as is_spent) taken.known ∙ ap is_spent taken.standing))
 
 -- a guard that is the same goes on
 pub goes_on : (c : CoverFacts) (g h : Guard) → h ≡ g → GoesOn c g h

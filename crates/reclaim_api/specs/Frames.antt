@@ -1,5 +1,5 @@
 -- What a reclaimer's calls leave as it was.
-use Rattle.std.specs.Prelude.{◌≡◌, ◌≢◌, ℕ, ◌+◌, ◌-◌, ◌&&◌, slice_index_or, List, ◌++◌, Bool, Option, Some, None}
+use Rattle.std.specs.Prelude.{◌≡◌, ◌≢◌, ℕ, ◌+◌, ◌-◌, ◌&&◌, slice_index_or, count_by, List, ◌++◌, Bool, false, Option, Some, None}
 use Rattle.record_memory.specs.declared.steps.Step.{Step}
 use Rattle.record_memory.specs.declared.books.Book.{Book}
 use Rattle.record_memory.specs.declared.books.Guard.{Guard}
@@ -12,20 +12,21 @@ use Rattle.row_words.specs.declared.links.Freed.{Freed}
 use Rattle.record_rule.specs.Facts.{Moment, CoverFacts}
 use Rattle.record_rule.specs.Guards.{started_if}
 use Rattle.record_rule.specs.Kinds.{retired_one, share_in, idle}
+use Rattle.record_rule.specs.Standings.{is_limbo, is_spent}
 
--- what is known of a record in limbo; of others nothing
-abbrev pub limbo_as : Share → Standing → Option Share
-limbo_as h (Handing n) = None
-limbo_as h Own = None
-limbo_as h Spare = None
-limbo_as h TakenOut = None
-limbo_as h Limbo = Some h
-limbo_as h Free = None
-limbo_as h Spent = None
+-- what is known of a record that was retired and can't be handed out: in limbo, or spent; of others nothing
+abbrev pub away_as : Share → Standing → Option Share
+away_as h (Handing n) = None
+away_as h Own = None
+away_as h Spare = None
+away_as h TakenOut = None
+away_as h Limbo = Some h
+away_as h Free = None
+away_as h Spent = Some h
 
-abbrev pub in_limbo : Option Share → Option Share
-in_limbo None = None
-in_limbo (Some h) = limbo_as h h.standing
+abbrev pub in_away : Option Share → Option Share
+in_away None = None
+in_away (Some h) = away_as h h.standing
 
 -- the guard is the same, or started with a load of a link, where the reclaimer has guards start so
 pub record GoesOn (c : CoverFacts) (g h : Guard) : Type 0 where
@@ -39,7 +40,7 @@ pub record SamePart (c : CoverFacts) (v w : View) : Type 0 where
   pub setup : w.setup ≡ v.setup
   pub caller : w.own.caller ≡ v.own.caller
   pub guard : GoesOn c v.own.guard w.own.guard
-  pub limbo : (i : ℕ) → in_limbo (slice_index_or w.own.mine i None) ≡ in_limbo (slice_index_or v.own.mine i None)
+  pub away : (i : ℕ) → in_away (slice_index_or w.own.mine i None) ≡ in_away (slice_index_or v.own.mine i None)
 
 -- what is known of a record that a call which frees leaves alone
 abbrev pub rest_as : Share → Standing → Option Share
@@ -81,9 +82,25 @@ pub record LeavesRecords (v w : View) : Type 0 where
 abbrev pub AddsSteps : Book → Book → Type 0
 AddsSteps b c = (more : List Step) × (c.steps ≡ b.steps ++ more)
 
+-- the caller has the record in a way that passes the test
+abbrev pub is_as : (Standing → Bool) → Option Share → Bool
+is_as test None = false
+is_as test (Some h) = test h.standing
+
+-- how many records it has so
+abbrev pub had : (Standing → Bool) → Book → ℕ
+had test b = count_by (is_as test) b.mine
+
+-- as many are in limbo as it retired and didn't free
+abbrev pub IsLimboLeft : Book → Type 0
+IsLimboLeft b = had is_limbo b + b.moves.freed ≡ b.moves.retired
+
 -- what left limbo and isn't spent is free, and stands in the chain of free records
 pub record FreesInto (v : View) (before : Chain) (f : Freed) (w : View) (after : Chain) : Type 0 where
   pub idle : idle w.own + f.spent ≡ idle v.own + f.freed
   pub count : after.count + f.spent ≡ before.count + f.freed
   -- each that left limbo was freed
   pub freed : w.own.moves.freed ≡ v.own.moves.freed + f.freed
+  -- and so many are spent
+  pub spent : had is_spent w.own ≡ had is_spent v.own + f.spent
+  pub limbo : IsLimboLeft v.own → IsLimboLeft w.own

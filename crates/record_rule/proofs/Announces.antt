@@ -38,7 +38,8 @@ use Rattle.record_rule.proofs.Outlines.{each_known}
 use Rattle.record_rule.proofs.Waiting.{none_waits}
 
 -- where the records are doesn't depend on an announcement
-announced_places : (setup : Setup) (records : List Record) (books : List Book) (m : Memory) (j value c : ℕ) (b own : Book) → At books c b → own.caller ≡ b.caller → own.mine ≡ b.mine → overshoot own ≡ overshoot b → Places setup records books m → Places setup records (set books c own) (put m (Announced j) value)
+announced_places : (setup : Setup) (records : List Record) (books : List Book) (m : Memory) (j value c : ℕ) (b own : Book) → At books c b → own.caller ≡ b.caller → own.mine ≡ b.mine → overshoot own ≡ overshoot b → Places setup records books m
+    → Places setup records (set books c own) (put m (Announced j) value)
 announced_places setup records books m j value c b own at caller mine weight p = let f = p.books_fit c b at in let m' : Memory = put m (Announced j) value in record {
   many = p.many;
   rows = p.rows;
@@ -60,7 +61,8 @@ other_words c d k value l low ne = by (dec_lt d c)
     by (yes h) = stretch_behind (4 * d) 4 (4 * c + k) value l (omega arith)
     by (no h) = stretch_before (4 * d) 4 (4 * c + k) value l (omega arith)
 
-module _ (shape : ShapeFacts) (cover : CoverFacts) (shaped : ShapeLaws shape) (covering : CoverLaws cover) (setup : Setup) (s : State (Unit {0}) View) (u : Rule shape cover setup s) (id : ℕ) (v : View) (at : get_elem? s.views id ≡ some v) (present : v.present ≡ true) (same : v.setup ≡ setup) (k value : ℕ) (low : k < 4)
+module _ (shape : ShapeFacts) (cover : CoverFacts) (shaped : ShapeLaws shape) (covering : CoverLaws cover) (setup : Setup) (s : State (Unit {0}) View) (u : Rule shape cover setup s) (id : ℕ) (v : View) (at : get_elem? s.views id ≡ some v) (present : v.present ≡ true)
+    (same : v.setup ≡ setup) (k value : ℕ) (low : k < 4)
     (may : cover.may_store setup v.own.guard k value) where
   abbrev m : Memory
   m = memory setup.callers setup.records s.words
@@ -215,7 +217,7 @@ module _ (shape : ShapeFacts) (cover : CoverFacts) (shaped : ShapeLaws shape) (c
   recent' : (n k : ℕ) → g'.start_updates ≤ n → g'.start_taken_out ≤ k → IsRecent n k g v.own.notes → IsRecent n k g' v.own.notes
   recent' n k updates taken_out h = record {
     updates_since = updates;
-    removals_since = taken_out;
+    taken_since = taken_out;
     reached = h.reached;
     behind = λ p r note hold there. let x = has.holds p r hold in subst (λ (z : Start). z.updates ≤ note.reached_at) (sym x.1) (h.behind p r note x.0 there);
     waits = λ p r note e there. none_waits g'.pending p r has.waits e;
@@ -250,7 +252,7 @@ module _ (shape : ShapeFacts) (cover : CoverFacts) (shaped : ShapeLaws shape) (c
         seen_taken_out = f.seen_taken_out;
         longer = omega arith;
         more_noted = (omega arith, omega arith);
-        recent = λ h. recent' (length v.seen_updates) (length v.seen_taken_out) (let e = now.updates in let a = h.updates_since in omega arith) (let e = now.taken_out in let a = h.removals_since in omega arith) h;
+        recent = λ h. recent' (length v.seen_updates) (length v.seen_taken_out) (let e = now.updates in let a = h.updates_since in omega arith) (let e = now.taken_out in let a = h.taken_since in omega arith) h;
         behind = own_behind shape cover setup s u id v at present;
         made = made';
         start_made = started';

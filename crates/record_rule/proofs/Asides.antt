@@ -154,12 +154,14 @@ module _ (shape : ShapeFacts) (cover : CoverFacts) (setup : Setup) (s : State (U
     -- so the rule stays
     pub move_kept : Rule shape cover setup record { words = after i value; homes = s.homes; views = set s.views id (record v { own = b }) }
     move_kept = rebuilt shape cover setup s u id v at present (after i value) (length-set s.words (address setup.callers (Field i 1)) value ∙ u.wide) (set u.records (i - 1) new) b step finds caller same.answered same.guard same.notes steps places_after
-        (subst (Parts shape cover setup) (sym (outline_after m (memory setup.callers setup.records (after i value)) u.taken_out u.updates (ap (λ (x : Memory). x.epoch) stored_words) (ap (λ (x : Memory). x.announced) stored_words) u.books c v.own b own_there same u.records (i - 1) r new there record {
+        (subst (Parts shape cover setup) (sym (outline_after m (memory setup.callers setup.records (after i value)) u.taken_out u.updates (ap (λ (x : Memory). x.epoch) stored_words)
+        (ap (λ (x : Memory). x.announced) stored_words) u.books c v.own b own_there same u.records (i - 1) r new there record {
           shape = hidden_kept to new ∙ sym (ap (λ (p : Place). shape_at p r) was_at ∙ hidden_kept from r);
           scheme = cell_is;
           taken = untaken_kept to new ∙ sym (ap (λ (p : Place). taken_at p r) was_at ∙ untaken_kept from r);
         })) u.parts)
-        (counts_moved setup.first u.records u.books c v.own b own_there u.counts (i - 1) r new there (balances_same setup.first v.own.moves b.moves r new (ap (λ (z : Moves). z.drawn) moves) (ap (λ (z : Moves). z.reused) moves) (ap (λ (z : Moves). z.retired) moves) (ap (λ (z : Moves). z.freed) moves) refl
+        (counts_moved setup.first u.records u.books c v.own b own_there u.counts (i - 1) r new there
+        (balances_same setup.first v.own.moves b.moves r new (ap (λ (z : Moves). z.drawn) moves) (ap (λ (z : Moves). z.reused) moves) (ap (λ (z : Moves). z.retired) moves) (ap (λ (z : Moves). z.freed) moves) refl
         (sym (ap drawn_as was_at)) (not_retired to ∙ sym (ap retired_as was_at ∙ not_retired from)) (not_freed to ∙ sym (ap freed_as was_at ∙ not_freed from))))
 
   -- the record that is read has the generation, holds a link, and is what its caller knows
@@ -183,7 +185,8 @@ module _ (shape : ShapeFacts) (cover : CoverFacts) (setup : Setup) where
       let e : put_aside v i value ≡ put_aside_as v i value (Some h) = ap (put_aside_as v i value) mine in
       let b : Book = (put_aside_as v i value (Some h)).own in let same_book : IsSameBook v.own b = record { guard = refl; notes = refl; roots = refl; locks = refl; answered = refl; offer = refl } in
       let kept : Rule shape cover setup record { words = set s.words (address setup.callers (Field i 1)) value; homes = s.homes; views = set s.views id (put_aside_as v i value (Some h)) } =
-      move_kept shape cover setup s u id v at present true false i value h x.0 pos x.1 x.2 x.3 was own link b refl same_book (field_store v i 1 value h) (not_held setup v.own.caller (field_store v i 1 value h) refl (inr (inl refl))) refl (calm_after v.own.drawing v.setup.records (field_store v i 1 value h) tt) refl v.own.moves.births refl in (
+      move_kept shape cover setup s u id v at present true false i value h x.0 pos x.1 x.2 x.3 was own link b refl same_book (field_store v i 1 value h) (not_held setup v.own.caller (field_store v i 1 value h) refl (inr (inl refl))) refl
+      (calm_after v.own.drawing v.setup.records (field_store v i 1 value h) tt) refl v.own.moves.births refl in (
         put_aside v i value,
         subst (λ (z : ℕ × View). Rule shape cover setup record { words = set s.words z.0 value; homes = s.homes; views = set s.views id z.1 }) (λ k. (sym is k, sym e k)) kept,
         (refl, subst (λ (o : Option Share). IsOverAs o 1 n) (sym mine) (found ∙ known_is)),

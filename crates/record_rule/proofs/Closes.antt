@@ -14,14 +14,18 @@ use Rattle.record_memory.specs.Memory.{memory}
 use Rattle.record_rule.specs.Records.{IsSetup}
 use Rattle.record_rule.specs.Inputs.{answered_of, offer_of, outline}
 use Rattle.record_rule.specs.Facts.{At, ShapeFacts, CoverFacts}
+use Rattle.record_rule.specs.Walks.{read_for, rows_ground}
+use Rattle.record_rule.specs.Laws.{ShapeLaws}
 use Rattle.record_rule.specs.Histories.{after, after_by, IsAnswered, IsWaiting, HistoryFits}
 use Rattle.record_rule.specs.World.{carries, Places, Parts, Rule}
 use Rattle.record_rule.specs.ClosedTables.{AreAllAnswered, IsWhole, ClosedFits}
 use Rattle.record_rule.specs.PlaceCounts.{CountsAddUp}
 use Rattle.record_rule.specs.Counts.{CountsFit}
 use Rattle.record_rule.proofs.CountingPlaces.{counts_add_up}
-use Rattle.record_rule.proofs.CountingTakings.{removals_counted}
+use Rattle.record_rule.proofs.CountingTakings.{taken_out_counted}
 use Rattle.record_rule.proofs.Lists.{at_below, get_at, map_at}
+use Rattle.record_rule.proofs.Steps.{given}
+use Rattle.record_rule.proofs.Walking.{has_roots, rows_read}
 
 -- lists of one length with the same entries are the same
 same_entries : {A : Type 0} (d : A) (xs ys : List A) → length xs ≡ length ys → ((i : ℕ) (a : A) → At xs i a → At ys i a) → xs ≡ ys
@@ -100,9 +104,15 @@ module _ (s : ShapeFacts) (c : CoverFacts) (setup : Setup) (t : State (Unit {0})
     unhelped = λ alone. none_waits s setup.set (carries v) _ behind parts.history (length v.front) waits (none_open s setup.set (carries v) _ behind parts.history (length v.front) waits alone);
   }
 
+  -- what a walk over the rows reads
+  rows_are_read : ShapeLaws s → IsSetup setup → read_for setup.set (rows_ground s setup.roots (memory setup.callers setup.records t.words).rows) (v.front ++ behind)
+  rows_are_read laws numbers = let facts = given s c setup t u in
+      subst (λ (z : SetName × (List (List ℕ) × List Update)). read_for z.0 (rows_ground s setup.roots z.1.0) z.1.1) (λ k. (sym u.set_is k, (u.places.rows k, split k)))
+      (rows_read s setup u.records u.places.sound (laws.walks setup _ _ facts) u.updates (laws.reads setup _ _ facts (has_roots s setup u.records u.places.sound numbers.roots (let m = u.places.many in let f = numbers.rooted in omega arith))))
+
   -- the rule of a table whose last pass carries all books
-  pub closed_fits : IsSetup setup → ClosedFits s c setup t.words (carries v) v.front
-  closed_fits numbers = record {
+  pub closed_fits : ShapeLaws s → IsSetup setup → ClosedFits s c setup t.words (carries v) v.front
+  closed_fits laws numbers = record {
     numbers = numbers;
     set_is = u.set_is;
     reclaimer_is = u.reclaimer_is;
@@ -110,12 +120,13 @@ module _ (s : ShapeFacts) (c : CoverFacts) (setup : Setup) (t : State (Unit {0})
     found = λ d b e n step. u.made d b (carried d b e) n step;
     records = u.records;
     placed = subst (λ books. Places setup u.records books (memory setup.callers setup.records t.words)) (sym all_books) u.places;
-    counted = subst (λ rows. CountsAddUp setup rows u.records u.taken_out) u.places.rows (counts_add_up setup numbers u.records u.places.many u.places.sound u.taken_out (removals_counted setup u.records u.taken_out u.places.sound u.parts.taken));
+    counted = subst (λ rows. CountsAddUp setup rows u.records u.taken_out) u.places.rows (counts_add_up setup numbers u.records u.places.many u.places.sound u.taken_out (taken_out_counted setup u.records u.taken_out u.places.sound u.parts.taken));
     taken_out = u.taken_out;
     taken = u.parts.taken;
     moved = subst (CountsFit setup.first u.records) (sym all_books) u.counts;
     waiting = behind;
     whole = is_whole;
+    read = rows_are_read laws numbers;
     formed = parts.shape;
     told = parts.told;
     covered = parts.scheme;

@@ -96,7 +96,8 @@ module _ (s : ShapeFacts) (cells cells' : List ShapeCell) (h : HiddenCells cells
   still_there i old at keep = let y = at_below cells' i (let l = below_at cells i old at in let m = h.many in omega arith) in let x = h.each i y.0 y.1 in
       y.1 ∙ ap some (keep y.0 y.1 (subst (λ (z : ShapeCell). IsHidden z y.0) (one_at cells i x.0 old x.1 at) x.2))
 
-module _ (shape : ShapeFacts) (cover : CoverFacts) (shaped : ShapeLaws shape) (covering : CoverLaws cover) (setup : Setup) (s : State (Unit {0}) View) (u : Rule shape cover setup s) (id : ℕ) (v : View) (at : get_elem? s.views id ≡ some v) (present : v.present ≡ true) (same : v.setup ≡ setup) (word : ℕ)
+module _ (shape : ShapeFacts) (cover : CoverFacts) (shaped : ShapeLaws shape) (covering : CoverLaws cover) (setup : Setup) (s : State (Unit {0}) View) (u : Rule shape cover setup s) (id : ℕ) (v : View) (at : get_elem? s.views id ≡ some v) (present : v.present ≡ true)
+    (same : v.setup ≡ setup) (word : ℕ)
     (value : ValueIs (scheme_input (before shape cover setup s u)) (word_at v.setup.callers word) (get_or s.words word 0)) where
   abbrev m : Memory
   m = memory setup.callers setup.records s.words
@@ -182,8 +183,10 @@ module _ (shape : ShapeFacts) (cover : CoverFacts) (shaped : ShapeLaws shape) (c
 
   -- what stays of each hold
   hold_stays : (e : ℕ) (g : Guard) → At (set x.guards c g1) e g → (p start : ℕ) (r : RefParts) (note : Note) → At g.holds p (Some r) → HoldFits shape was.shapes start r note → HoldFits shape (map shape_cell records') start r note
-  hold_stays e g there p start _ _ hold (while_linked i generation marked body note cell fits) = while_linked i generation marked body note (cell_stays may c u.records i (linked generation body marked) cell (λ a b k st q at free. nobody i a b k st q at free e p g (refer (i + 1) generation) there hold refl)) fits
-  hold_stays e g there p start _ _ hold (while_out i generation marked k body note cell late fits) = while_out i generation marked k body note (cell_stays may c u.records i (out generation body marked k) cell (λ a b k st q at free. nobody i a b k st q at free e p g (refer (i + 1) generation) there hold refl)) late fits
+  hold_stays e g there p start _ _ hold (while_linked i generation marked body note cell fits) = while_linked i generation marked body note
+      (cell_stays may c u.records i (linked generation body marked) cell (λ a b k st q at free. nobody i a b k st q at free e p g (refer (i + 1) generation) there hold refl)) fits
+  hold_stays e g there p start _ _ hold (while_out i generation marked k body note cell late fits) = while_out i generation marked k body note
+      (cell_stays may c u.records i (out generation body marked k) cell (λ a b k st q at free. nobody i a b k st q at free e p g (refer (i + 1) generation) there hold refl)) late fits
 
   same_holds : HasCleared g1 g2
   same_holds = covering.cleared v.setup g1
@@ -303,7 +306,7 @@ module _ (shape : ShapeFacts) (cover : CoverFacts) (shaped : ShapeLaws shape) (c
   recent2 : (a b : ℕ) → IsRecent a b v.own.guard v.own.notes → IsRecent a b g2 v.own.notes
   recent2 a b h = record {
     updates_since = let x = h.updates_since in let e = ap (λ (z : Start). z.updates) same_start in omega arith;
-    removals_since = let x = h.removals_since in let e = start_same in omega arith;
+    taken_since = let x = h.taken_since in let e = start_same in omega arith;
     reached = h.reached;
     behind = λ p r note hold there. subst (λ (z : Start). z.updates ≤ note.reached_at) (sym same_start)
         (⊎_elim (λ y. h.behind p r note y there) (λ y. h.waits p r note y.0 there) (has1.holds p r (subst (λ (l : List (Option RefParts)). At l p (Some r)) same_holds.holds hold)));

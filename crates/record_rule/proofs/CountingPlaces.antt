@@ -15,7 +15,8 @@ use Rattle.record_rule.specs.Records.{IsSetup, Record, IsSound, carried}
 use Rattle.record_rule.specs.Inputs.{taken_cell, taken_at}
 use Rattle.record_rule.specs.Taken.{generation_of}
 use Rattle.record_rule.specs.Facts.{At}
-use Rattle.record_rule.specs.PlaceCounts.{is_undrawn, is_root, is_linked, is_shelved, is_had, is_handing, is_own, is_spare, is_taken_out, is_limbo, is_free, is_spent, count_in, drawn_in, reused_in, unreused_in, generation_in, is_from, CountsAddUp}
+use Rattle.record_rule.specs.Standings.{is_undrawn, is_root, is_linked, is_shelved, is_had, is_handing, is_own, is_spare, is_taken_out, is_limbo, is_free, is_spent}
+use Rattle.record_rule.specs.PlaceCounts.{count_in, drawn_in, reused_in, unreused_in, generation_in, is_from, CountsAddUp}
 
 abbrev pub bit : Bool → ℕ
 bit b = cond b 1 0

@@ -18,7 +18,8 @@ use Rattle.record_rule.specs.Records.{Record, IsSound}
 use Rattle.record_rule.specs.Inputs.{TakenCell, untaken, was_taken, taken_cell, taken_at, taken_had}
 use Rattle.record_rule.specs.Facts.{At}
 use Rattle.record_rule.specs.Taken.{generation_of, IsTakenAs, TakenFits}
-use Rattle.record_rule.specs.PlaceCounts.{is_shelved, is_had, is_taken_out, is_limbo, is_free, is_spent, reused_in, unreused_in}
+use Rattle.record_rule.specs.Standings.{is_shelved, is_had, is_taken_out, is_limbo, is_free, is_spent}
+use Rattle.record_rule.specs.PlaceCounts.{reused_in, unreused_in}
 use Rattle.record_rule.proofs.Lists.{below_at, one_at, map_at}
 use Rattle.record_rule.proofs.CountingPlaces.{bit, count_cons, in_cons, first_ones}
 
@@ -194,7 +195,7 @@ module _ (setup : Setup) where
   born_at i r (Shelved k) e s = s.born (λ q. let z : Shelved k ≡ Undrawn = sym e ∙ q in cc)
   born_at i r (Of c t) e s = born_had t r (s.born (λ q. let z : Of c t ≡ Undrawn = sym e ∙ q in cc))
 
-  pub removals_counted : (records : List Record) (taken_out : List RefParts) → ((i : ℕ) (r : Record) → At records i r → IsSound setup i r) → TakenFits setup (map taken_cell records) taken_out → length taken_out ≡ reused_in setup records + unreused_in records
-  removals_counted records taken_out sound fits =
+  pub taken_out_counted : (records : List Record) (taken_out : List RefParts) → ((i : ℕ) (r : Record) → At records i r → IsSound setup i r) → TakenFits setup (map taken_cell records) taken_out → length taken_out ≡ reused_in setup records + unreused_in records
+  taken_out_counted records taken_out sound fits =
       takings_counted setup (map taken_cell records) taken_out fits (λ i cell at. let x = map_at taken_cell records i cell at in subst (λ c. setup.first ≤ generation_of c) x.2 (born_at i x.0 x.0.place refl (sound i x.0 x.1)))
       ∙ times_counted setup records

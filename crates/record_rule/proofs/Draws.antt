@@ -87,6 +87,7 @@ module _ (setup : Setup) (is_setup : IsSetup setup) (bump : setup.allocator ≡ 
     shelves_are = u.shelves_are;
     cursors_are = u.cursors_are;
     drawn_is = λ e. let same : Bump ≡ Once = sym bump ∙ e in let none : ⊥ = cc in absurd none;
+    cursors_within = u.cursors_within;
   }
 
   -- after the draw of the record at n, one more is drawn

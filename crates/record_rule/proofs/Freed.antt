@@ -17,7 +17,8 @@ use Rattle.record_rule.specs.Records.{Record, share}
 use Rattle.record_rule.specs.Inputs.{ShapeCell, hidden, shape_cell, unseen, limbo, birth, stamp, scheme_had, scheme_at, scheme_cell, taken_cell}
 use Rattle.record_rule.specs.Facts.{At, LimboRecord}
 use Rattle.record_rule.specs.Laws.{limbo_record, IsFreed, goes, stays, FreedCells, IsHidden, hides_, keeps_, HiddenCells}
-use Rattle.record_rule.specs.Freeing.{is_limbo, freed_standing, limbo_share, leaves_limbo, freed_of, freed_from}
+use Rattle.record_rule.specs.Standings.{is_limbo}
+use Rattle.record_rule.specs.Freeing.{freed_standing, limbo_share, leaves_limbo, freed_of, freed_from}
 use Rattle.record_rule.proofs.Lists.{below_at, at_below, one_at, map_at}
 use Rattle.record_rule.proofs.Owned.{share_of, seen_by, unseen_by, has}
 

@@ -81,7 +81,8 @@ module _ (may : LimboRecord → Bool) (d : ℕ) where
     freed_once i r = let a = goes_from freed_as refl i r 1 refl (goes_at may d i r.place r) refl in let b = counted i r (share d r) refl in let c = lives_same i r in omega arith
 
     -- So the callers' moves are the records' still
-    pub counts_freed : (records : List Record) (books : List Book) (b own : Book) → get_elem? books d ≡ some b → b.mine ≡ map (share d) records → own.moves ≡ freed_more b.moves (count_freed may 0 b.mine) → CountsFit first records books → CountsFit first (freed_records may d 0 records) (set books d own)
+    pub counts_freed : (records : List Record) (books : List Book) (b own : Book) → get_elem? books d ≡ some b → b.mine ≡ map (share d) records → own.moves ≡ freed_more b.moves (count_freed may 0 b.mine) → CountsFit first records books
+        → CountsFit first (freed_records may d 0 records) (set books d own)
     counts_freed records books b own at mine moves h = record {
       drawn = let e = sum_set drawn_by books d b own at in let f = ap (λ (m : Moves). m.drawn) moves in let g = h.drawn in let k = sum_same was_drawn drawn_once 0 records in omega arith;
       reused = let e = sum_set reused_by books d b own at in let f = ap (λ (m : Moves). m.reused) moves in let g = h.reused in let k = sum_same (lives_before first) lives_same 0 records in omega arith;

@@ -130,7 +130,8 @@ pub record Grows (s : ShapeFacts) (name : SetName) (updates : List Update) (book
   pub longer : length v.front ≤ length (front_for v.front (with_update updates u) call)
   pub behind : (n : ℕ) (a : Answered) → At (v.own.answered ++ entry_for (length updates) call) n a → after a ≤ length (front_for v.front (with_update updates u) call)
 
-module _ (s : ShapeFacts) (name : SetName) (updates : List Update) (books : List (List Answered)) (offers : List (Option Offer)) (v : View) (h : HistoryFits s name updates books offers) (at : At books v.own.caller v.own.answered) (offer : At offers v.own.caller v.own.offer) (front : StartsWith updates v.front) (seen : (n : ℕ) (a : Answered) → At v.own.answered n a → after a ≤ length v.front) where
+module _ (s : ShapeFacts) (name : SetName) (updates : List Update) (books : List (List Answered)) (offers : List (Option Offer)) (v : View) (h : HistoryFits s name updates books offers) (at : At books v.own.caller v.own.answered)
+    (offer : At offers v.own.caller v.own.offer) (front : StartsWith updates v.front) (seen : (n : ℕ) (a : Answered) → At v.own.answered n a → after a ≤ length v.front) where
   -- what the pass has seen is no more than there is
   front_within : length v.front ≤ length updates
   front_within = let e = ap length front.1 in let l = length-append v.front front.0 in omega arith

@@ -40,6 +40,8 @@ pub mod Announces
 pub mod Placing
 pub mod Noted
 pub mod Epochs
+pub mod Walking
+pub mod Tying
 pub mod Closes
 pub mod CountingPlaces
 pub mod CountingTakings

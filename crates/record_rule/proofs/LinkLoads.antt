@@ -125,7 +125,8 @@ module _ (shape : ShapeFacts) (cover : CoverFacts) (setup : Setup) (s : State (U
     book_after t g notes roots = record (with_step v.own v.setup.records t) { guard = g; notes = notes; root_notes = roots }
 
     -- The rule after a load with which the caller came to hold and to know this
-    pub rule_after : (word : ℕ) (t : Step) → StepFits setup c t → (g : Guard) (notes : List Note) (roots : List (List ℕ)) → IsCalm t.kind → IsRecent (length u.updates) (length u.taken_out) g notes → g.announced ≡ v.own.guard.announced → (v.own.guard.start_step ≤ length v.own.steps → g.start_step ≤ length (v.own.steps ++ t ∷ []))
+    pub rule_after : (word : ℕ) (t : Step) → StepFits setup c t → (g : Guard) (notes : List Note) (roots : List (List ℕ)) → IsCalm t.kind → IsRecent (length u.updates) (length u.taken_out) g notes → g.announced ≡ v.own.guard.announced
+        → (v.own.guard.start_step ≤ length v.own.steps → g.start_step ≤ length (v.own.steps ++ t ∷ []))
         → HeldFits shape cover.places was.shapes u.taken_out g notes → KnownFits shape setup (shape_input was) u.updates g notes roots → ToldStart (start_of g) → cover.covered setup (with_guard (scheme_input was) c g)
         → Rule shape cover setup record { words = set s.words word (get_or s.words word 0); homes = s.homes; views = set s.views id (seeing v u.updates u.taken_out (book_after t g notes roots)) }
     rule_after word t finds g notes roots calm recent words started held known told covered = let f = u.seated id v at in let own : Book = book_after t g notes roots in
@@ -208,13 +209,15 @@ module _ (shape : ShapeFacts) (cover : CoverFacts) (shaped : ShapeLaws shape) (c
       let found = found_word shape cover setup is_setup s u id v at present o n word f is below in
       let notes : List Note = noting (shape.settled f (drop 3 n.node.row)) v.own.notes o f k in
       let there = noted_there shape cover setup is_setup s u id v at present o hold in
-      let held : HeldFits shape cover.places cells u.taken_out v.own.guard notes = held_noting shape cells (index_of o - 1) n.node.generation n.node.marked f k (drop 3 n.node.row) (shape_cell n.node) (at_map shape_cell u.records (index_of o - 1) n.node n.there) n.body low (body_word n.node.row f low ∙ sym found)
+      let held : HeldFits shape cover.places cells u.taken_out v.own.guard notes = held_noting shape cells (index_of o - 1) n.node.generation n.node.marked f k (drop 3 n.node.row) (shape_cell n.node)
+      (at_map shape_cell u.records (index_of o - 1) n.node n.there) n.body low (body_word n.node.row f low ∙ sym found)
       cover.places u.taken_out v.own.guard v.own.notes o (own_held shape cover setup is_setup s u id v at present) there (let pos = n.some_index in let z : index_of o ≡ index_of o - 1 + 1 = omega arith in z) in
       let known : KnownFits shape setup (shape_input x) u.updates v.own.guard notes v.own.root_notes = known_noting shape setup (shape_input x) u.updates v.own.guard v.own.notes v.own.root_notes (shape.settled f (drop 3 n.node.row)) o f k there (own_known shape cover setup s u id v at present) in
       let time : Moment = moment (scheme_input x) (length u.updates) in let b : Bool = cover.begins_loading && first in let step : ℕ = length v.own.steps + 1 in let g : Guard = started_if b time v.own.guard step in
       let recent = recent_started time v.own.guard step notes b (recent_noting (length u.updates) (length u.taken_out) v.own.guard v.own.notes (shape.settled f (drop 3 n.node.row)) o f k there (recent_now shape cover setup s u id v at present)) in
       let told = told_started shape cover shaped setup s u id v at present step b in
-      let covered = covered_started covering setup (scheme_input x) v.own.caller step (length u.updates) v.own.guard b (λ e. (and_parts cover.begins_loading first e).0) (safe shape cover setup u.records u.books u.taken_out u.updates (memory setup.callers setup.records s.words) u.places u.parts) u.parts.scheme my_guard in (
+      let covered = covered_started covering setup (scheme_input x) v.own.caller step (length u.updates) v.own.guard b (λ e. (and_parts cover.begins_loading first e).0)
+      (safe shape cover setup u.records u.books u.taken_out u.updates (memory setup.callers setup.records s.words) u.places u.parts) u.parts.scheme my_guard in (
         seeing v u.updates u.taken_out (book_after shape cover setup s u id v at present t g notes (roots_kept b v.own.root_notes)),
         rule_after shape cover setup s u id v at present word t (node_finds shape cover setup is_setup s u id v at present o n Load word f is below (inl refl)) g notes (roots_kept b v.own.root_notes) tt recent (words_started time v.own.guard step notes b)
             (λ h. let l = length-append v.own.steps (t ∷ []) in step_started time v.own.guard step notes b (length (v.own.steps ++ t ∷ [])) (omega arith) (omega arith))

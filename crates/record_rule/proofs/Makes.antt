@@ -65,7 +65,8 @@ module _ (v : View) (r : RefParts) (birth : ℕ) (d : HasDrawn v r) where
 
   makes_from : (n : ℕ) → (steps : List Step) × Makes v (at n) steps
   makes_from zero = ([], makes_start v)
-  makes_from (suc n) = let m = makes_from n in let t : Step = field_store (at n) r.index n (get_or row n 0) (share n) in (m.0 ++ t ∷ [], makes_then v (at n) (at (suc n)) m.0 (t ∷ []) m.1 (let s = stored_drawn (share n).standing (at n).own.moves in makes_one (at n) (at (suc n)) t _ _ (stored_one n) s.2 s.3))
+  makes_from (suc n) = let m = makes_from n in let t : Step = field_store (at n) r.index n (get_or row n 0) (share n) in
+      (m.0 ++ t ∷ [], makes_then v (at n) (at (suc n)) m.0 (t ∷ []) m.1 (let s = stored_drawn (share n).standing (at n).own.moves in makes_one (at n) (at (suc n)) t _ _ (stored_one n) s.2 s.3))
 
   idle_from : (n : ℕ) → n < 9 → idle (at n).own ≡ idle v.own
   idle_from zero lt = refl

@@ -152,7 +152,11 @@ module _ (setup : Setup) (ok : IsSetup setup) where
   root_sound i h = record {
     eight = refl;
     generations = root_words setup.first;
-    links = λ f is. (⊎_elim (λ e. subst (λ (z : ℕ). IsPackedLink (get_or (root_row setup.first) z 0)) (sym e) (packed_zero setup.first)) (λ e. subst (λ (z : ℕ). IsPackedLink (get_or (root_row setup.first) z 0)) (sym e) (packed_zero setup.first)) is, λ one. ap (λ (z : ℕ). (link_in (get_or (root_row setup.first) z 0)).flags) one ∙ zero_flags setup.first);
+    links = λ f is. (
+      ⊎_elim (λ e. subst (λ (z : ℕ). IsPackedLink (get_or (root_row setup.first) z 0)) (sym e) (packed_zero setup.first)) (λ e. subst (λ (z : ℕ). IsPackedLink (get_or (root_row setup.first) z 0)) (sym e) (packed_zero setup.first)) is,
+      λ one. ap
+          (λ (z : ℕ). (link_in (get_or (root_row setup.first) z 0)).flags) one ∙ zero_flags setup.first,
+    );
     within = ok.first;
     roots = λ _. refl;
     no_root = λ _. h;
@@ -171,7 +175,11 @@ module _ (setup : Setup) (ok : IsSetup setup) where
   blank_sound i h = record {
     eight = refl;
     generations = λ f lt. ap own_in (get_or-replicate 8 f (packed_number (setup.first - 1) 0) 0 lt) ∙ own_in-packed_number (setup.first - 1) 0 (omega arith);
-    links = λ f is. (subst IsPackedLink (sym (get_or-replicate 8 f (packed_number (setup.first - 1) 0) 0 (⊎_elim (λ e. omega arith) (λ e. omega arith) is))) (packed_zero (setup.first - 1)), λ one. ap (λ (z : ℕ). (link_in (get_or (blank_row setup.first) z 0)).flags) one ∙ zero_flags (setup.first - 1));
+    links = λ f is. (
+      subst IsPackedLink (sym (get_or-replicate 8 f (packed_number (setup.first - 1) 0) 0 (⊎_elim (λ e. omega arith) (λ e. omega arith) is))) (packed_zero (setup.first - 1)),
+      λ one. ap (λ (z : ℕ). (link_in (get_or (blank_row setup.first) z 0)).flags) one
+          ∙ zero_flags (setup.first - 1),
+    );
     within = let e = ok.first in omega arith;
     roots = λ lt. absurd (omega arith);
     no_root = λ e. let none : ⊥ = cc in absurd none;

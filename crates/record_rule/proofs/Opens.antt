@@ -61,17 +61,23 @@ module _ (setup : Setup) (ok : IsSetup setup) (first : Guard) where
   announced_are = ap (stretch 20 many) parted ∙ ap (take many) (drop_at (setup.roots ∷ 1 ∷ replicate 18 0) (replicate many 0 ++ (replicate setup.callers 0 ++ rest setup)) 20 refl)
       ∙ take_at (replicate many 0) (replicate setup.callers 0 ++ rest setup) many (length-replicate many 0)
 
-  -- the pool's words are 0, and so are the cursors
+  -- each cursor is 0
+  cursors_are : m.cursors ≡ replicate setup.callers 0
+  unfolding memory
+  cursors_are = ap (stretch (20 + many) setup.callers) parted ∙ ap (λ (l : List ℕ). take setup.callers (drop (20 + many) l)) (sym (append_assoc (setup.roots ∷ 1 ∷ replicate 18 0) (replicate many 0) (replicate setup.callers 0 ++ rest setup)))
+      ∙ ap (take setup.callers) (drop_at ((setup.roots ∷ 1 ∷ replicate 18 0) ++ replicate many 0) (replicate setup.callers 0 ++ rest setup) (20 + many) (length-append (setup.roots ∷ 1 ∷ replicate 18 0) (replicate many 0) ∙ ap (λ (z : ℕ). 20 + z) (length-replicate many 0)))
+      ∙ take_at (replicate setup.callers 0) (rest setup) setup.callers (length-replicate setup.callers 0)
+
+  -- and so are the pool's words
   untouched : AreUntouched setup m.lock m.blank m.drawn m.shelves m.cursors
   unfolding memory
   untouched = record {
     lock_is = zero_at setup 2 (omega arith) (omega arith);
     blank_is = zero_at setup 3 (omega arith) (omega arith);
     shelves_are = ap (stretch 4 16) parted;
-    cursors_are = λ _. ap (stretch (20 + many) setup.callers) parted ∙ ap (λ (l : List ℕ). take setup.callers (drop (20 + many) l)) (sym (append_assoc (setup.roots ∷ 1 ∷ replicate 18 0) (replicate many 0) (replicate setup.callers 0 ++ rest setup)))
-        ∙ ap (take setup.callers) (drop_at ((setup.roots ∷ 1 ∷ replicate 18 0) ++ replicate many 0) (replicate setup.callers 0 ++ rest setup) (20 + many) (length-append (setup.roots ∷ 1 ∷ replicate 18 0) (replicate many 0) ∙ ap (λ (z : ℕ). 20 + z) (length-replicate many 0)))
-        ∙ take_at (replicate setup.callers 0) (rest setup) setup.callers (length-replicate setup.callers 0);
+    cursors_are = λ _. cursors_are;
     drawn_is = λ _. refl;
+    cursors_within = λ _ c n at. let e = (at_replicate setup.callers c 0 n (ap (λ (l : List ℕ). get_elem? l c) (sym cursors_are) ∙ at)).1 in omega arith;
   }
 
   -- the rows are the last words
@@ -214,7 +220,7 @@ module _ (setup : Setup) (ok : IsSetup setup) (first : Guard) where
     first_recent : IsRecent 0 0 first blank
     first_recent = record {
       updates_since = let e = ap (λ (z : Guard). z.start_updates) is_first in let k = covering.unstarted.1 in omega arith;
-      removals_since = let e = not_started in omega arith;
+      taken_since = let e = not_started in omega arith;
       reached = λ p note e. let z = not_reached first.holds p note e in omega arith;
       behind = λ p r note e n. absurd (no_hold p r e);
       waits = λ p r note e n. none_waits first.pending p r (ap (λ (z : Guard). z.pending) (sym is_first) ∙ covering.calm) e;

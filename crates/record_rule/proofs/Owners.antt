@@ -161,7 +161,8 @@ module _ (shape : ShapeFacts) (cover : CoverFacts) (setup : Setup) (s : State (U
 
     -- so the rule stays where the facts hold
     kept_with : Parts shape cover setup now → Kept i f value h
-    kept_with parts = rebuilt shape cover setup s u id v at present (words_after i f value) (length-set s.words (address setup.callers (Field i f)) value ∙ u.wide) (set u.records (i - 1) new) (after i f value h).own _ (not_held setup v.own.caller _ refl (inr (inl refl))) refl refl refl refl refl places_after parts
+    kept_with parts = rebuilt shape cover setup s u id v at present (words_after i f value) (length-set s.words (address setup.callers (Field i f)) value ∙ u.wide) (set u.records (i - 1) new) (after i f value h).own _
+        (not_held setup v.own.caller _ refl (inr (inl refl))) refl refl refl refl refl places_after parts
         (counts_moved setup.first u.records u.books c v.own (after i f value h).own own_there u.counts (i - 1) r new there (balances_stored setup.first c h.standing v.own.moves r new is refl refl))
 
     -- the store that ends a handing out
@@ -172,7 +173,8 @@ module _ (shape : ShapeFacts) (cover : CoverFacts) (setup : Setup) (s : State (U
         let law : cover.covered setup record x { cells = set x.cells (i - 1) (unpublished c r.generation b) } = laws.hands setup x (i - 1) c r.generation b v.own.guard (safe shape cover setup u.records u.books u.taken_out u.updates m u.places u.parts) u.parts.scheme
         (at_map scheme_cell u.records (i - 1) r there ∙ ap some (ap (λ (p : Place). scheme_at p r) is ∙ ended_unseen c h.standing r end))
         (at_map guard_of u.books c v.own own_there) birth in
-        kept_with (subst (Parts shape cover setup) (outline_scheme m (memory setup.callers setup.records (words_after i f value)) u.taken_out u.updates epoch_is announced_is u.books c v.own (after i f value h).own own_there same_book u.records (i - 1) r new (unpublished c r.generation b) there shape_is cell taken_is) record {
+        kept_with (subst (Parts shape cover setup) (outline_scheme m (memory setup.callers setup.records (words_after i f value)) u.taken_out u.updates epoch_is announced_is u.books c v.own (after i f value h).own own_there same_book u.records (i - 1) r new
+        (unpublished c r.generation b) there shape_is cell taken_is) record {
           taken = u.parts.taken;
           held = u.parts.held;
           known = u.parts.known;

@@ -30,7 +30,11 @@ module _ (shape : ShapeFacts) (cover : CoverFacts) (setup : Setup) where
   pub places_read : (id word p : ℕ) (v : View) (call : Call) (reply : Bool) → v.present ≡ true → MayPlace shape v p call reply → Lawful (Rule shape cover setup) id v word (λ n. n) (λ n w. w ≡ placed_view v word n p call reply)
   places_read id word p v call reply present may s u at = let n : ℕ = get_or s.words word 0 in let t : Step = control_load v word n in let w : View = placed_view v word n p call reply in let f = u.seated id v at in
       let mine = book shape cover setup s u id v at present in let c : ℕ = v.own.caller in let a : Answered = read_at p call reply in let m : Memory = memory setup.callers setup.records s.words in let was : Outline = before shape cover setup s u in
-      let start : StartsWith u.updates (take p v.seen_updates) = (drop p v.seen_updates ++ f.seen_updates.0, f.seen_updates.1 ∙ ap (λ (l : List Update). l ++ f.seen_updates.0) (sym (take-append-drop p v.seen_updates)) ∙ append_assoc (take p v.seen_updates) (drop p v.seen_updates) f.seen_updates.0) in
+      let start : StartsWith u.updates (take p v.seen_updates) = (
+        drop p v.seen_updates ++ f.seen_updates.0,
+        f.seen_updates.1 ∙ ap (λ (l : List Update). l ++ f.seen_updates.0) (sym (take-append-drop p v.seen_updates))
+            ∙ append_assoc (take p v.seen_updates) (drop p v.seen_updates) f.seen_updates.0,
+      ) in
       let same : take p u.updates ≡ take p v.seen_updates = ap (take p) f.seen_updates.1 ∙ take-append-le p v.seen_updates f.seen_updates.0 may.within in
       let many : length (take p v.seen_updates) ≡ p = (let l = length-take p v.seen_updates in let z = may.within in omega (arith, l)) in
       let whole : length u.updates ≡ length v.seen_updates + length f.seen_updates.0 = ap length f.seen_updates.1 ∙ length-append v.seen_updates f.seen_updates.0 in

@@ -145,13 +145,16 @@ module _ (shape : ShapeFacts) (cover : CoverFacts) (setup : Setup) (is_setup : I
           let is_new : IsLink new = record { flags = omega arith; target = is_ref } in let t : Step = node_step v Exchange o f (link_word v.setup o old) (link_word v.setup o new) in
           let mine : List (Option Share) = set v.own.mine k None in let w : View = view_after shape cover setup is_setup s u id v at present o n word f is low high same holds new is_new call dec t mine records u.taken_out in
           let node = node_with shape cover setup is_setup s u id v at present o n f old low old_is in
-          let kept = shaped.publishes setup (shape_input was) (trace was) c (length v.own.answered + 1) (near_of v o) f old own (drop 3 row) 0 next call
+          let kept = shaped.publishes setup (shape_input was) (trace was) record { caller = c; number = length v.own.answered + 1; near = near_of v o; field = f; old = old; call = call } own (drop 3 row) 0 next
           (given shape cover setup s u) node (fits_next old.target next is_next) was_hidden is_ref x.five
           own_new may in (
             w,
-            leaves shape cover setup is_setup s u id v at present o n word f is low high same holds new is_new call dec t mine records u.taken_out old old_is node_there (finds_held shape cover setup is_setup s u id v at present o Exchange f (link_word v.setup o old) (link_word v.setup o new) (subst (λ (z : Setup). own_in (link_word z o old) ≡ generation_at setup o) (sym same) own_is) (subst (λ (z : Setup). own_in (link_word z o new) ≡ generation_at setup o) (sym same) (own_in-packed_link (generation_at setup o) new is_new)) (inr (inr refl))) (starts_itself u.taken_out)
+            leaves shape cover setup is_setup s u id v at present o n word f is low high same holds new is_new call dec t mine records u.taken_out old old_is node_there
+                (finds_held shape cover setup is_setup s u id v at present o Exchange f (link_word v.setup o old) (link_word v.setup o new) (subst (λ (z : Setup). own_in (link_word z o old) ≡ generation_at setup o) (sym same) own_is)
+                (subst (λ (z : Setup). own_in (link_word z o new) ≡ generation_at setup o) (sym same) (own_in-packed_link (generation_at setup o) new is_new)) (inr (inr refl))) (starts_itself u.taken_out)
                 (published_places setup u.records u.books m c k v.own w.own q u.places (book shape cover setup s u id v at present) x.there x.place refl refl (calm_after v.own.drawing v.setup.records t tt))
-                (counts_moved setup.first u.records u.books c v.own w.own (book shape cover setup s u id v at present) u.counts k q q' x.there (balances_same setup.first v.own.moves v.own.moves q q' refl refl refl refl refl (sym (ap drawn_as x.place)) (sym (ap retired_as x.place)) (sym (ap freed_as x.place)))) taken (held is_ref) (scheme covering)
+                (counts_moved setup.first u.records u.books c v.own w.own (book shape cover setup s u id v at present) u.counts k q q' x.there
+                (balances_same setup.first v.own.moves v.own.moves q q' refl refl refl refl refl (sym (ap drawn_as x.place)) (sym (ap retired_as x.place)) (sym (ap freed_as x.place)))) taken (held is_ref) (scheme covering)
                 (subst (λ (l : List ShapeCell). Keeps shape setup (shape_input was) (trace was) (near_of v o) f old node new (own_update v call)
                 record (shape_input was) { cells = set l (index_of o - 1) (cell_after shape cover setup is_setup s u id v at present o n word f is low high same holds new is_new call dec t mine records u.taken_out old) }) cells_are kept),
             record {

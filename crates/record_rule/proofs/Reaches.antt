@@ -165,9 +165,9 @@ step_by : (b : Bool) (m : Moment) (step bound : ℕ) (g new : Guard) → StartsI
 step_by true m step bound g new start now before = let e = start.step_is in omega arith
 step_by false m step bound g new start now before = let e = start.step in omega arith
 
-removals_by : (b : Bool) (m : Moment) (step : ℕ) (g new : Guard) → StartsIf b m step g new → (new.start_taken_out ≡ g.start_taken_out) ⊎ (new.start_taken_out ≡ m.taken_out)
-removals_by true m step g new start = inr start.taken_out
-removals_by false m step g new start = inl start.taken_out
+taken_by : (b : Bool) (m : Moment) (step : ℕ) (g new : Guard) → StartsIf b m step g new → (new.start_taken_out ≡ g.start_taken_out) ⊎ (new.start_taken_out ≡ m.taken_out)
+taken_by true m step g new start = inr start.taken_out
+taken_by false m step g new start = inl start.taken_out
 
 again_by : (b : Bool) (m : Moment) (step : ℕ) (g new : Guard) → StartsIf b m step g new → b ≡ false → start_of new ≡ start_of g
 again_by true m step g new start e = let none : ⊥ = cc in absurd none
@@ -185,16 +185,17 @@ module _ (shape : ShapeFacts) (cover : CoverFacts) (shaped : ShapeLaws shape) (c
       let time : Moment = moment (scheme_input x) (length u.updates) in let g : Guard = cover.reached time v.own.guard q (target_of l) in let has = covering.reached time v.own.guard q (target_of l) may_reach in
       let b : Bool = cover.begins_loading && q.first in let note : Note = note_of shape came.target (length u.updates) in let notes : List Note = set v.own.notes q.place note in
       let held : HeldFits shape cover.places x.shapes u.taken_out g notes = held_reached shape cover.places x.shapes u.taken_out v.own.guard g v.own.notes q.place (target_of l) note (own_held shape cover setup is_setup s u id v at present) has.holds has.only came.held has.many
-      (removals_by b time q.step v.own.guard g has.start) (blank_kept shape came.target (length u.updates)) has.waits in
+      (taken_by b time q.step v.own.guard g has.start) (blank_kept shape came.target (length u.updates)) has.waits in
       let recent_before = recent_now shape cover setup s u id v at present in
       let recent : IsRecent (length u.updates) (length u.taken_out) g notes = recent_reached time v.own.guard g q.place (target_of l) v.own.notes shape came.target came.found has.holds has.only has.waits
-      (starts_by b time q.step v.own.guard g has.start recent_before.updates_since recent_before.removals_since) recent_before in
+      (starts_by b time q.step v.own.guard g has.start recent_before.updates_since recent_before.taken_since) recent_before in
       let covered = covering.reaches setup (scheme_input x) v.own.caller (length u.updates) v.own.guard q (target_of l) (safe shape cover setup u.records u.books u.taken_out u.updates (memory setup.callers setup.records s.words) u.places u.parts) u.parts.scheme
       (at_map guard_of u.books v.own.caller v.own (book shape cover setup s u id v at present)) may_reach came.reachable_is in (
         seeing v u.updates u.taken_out (book_after shape cover setup s u id v at present t g notes (roots_kept b v.own.root_notes)),
         rule_after shape cover setup s u id v at present word t (node_finds shape cover setup is_setup s u id v at present o n Load word f is below (inl refl)) g notes (roots_kept b v.own.root_notes) tt
             recent has.words (λ h. let l = length-append v.own.steps (t ∷ []) in step_by b time q.step (length (v.own.steps ++ t ∷ [])) v.own.guard g has.start (omega arith) (omega arith)) held
-            (known_reached shape cover shaped setup s u id v at present g q (target_of l) note (blank_kept shape came.target (length u.updates)) has.holds has.only b (again_by b time q.step v.own.guard g has.start)) (told_reached shape cover shaped setup s u id v at present b g q.step has.start) covered,
+            (known_reached shape cover shaped setup s u id v at present g q (target_of l) note (blank_kept shape came.target (length u.updates)) has.holds has.only b (again_by b time q.step v.own.guard g has.start))
+            (told_reached shape cover shaped setup s u id v at present b g q.step has.start) covered,
         record {
           whole = are_whole shape cover setup s u id v at present;
           target = came.target;

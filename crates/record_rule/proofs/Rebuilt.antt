@@ -157,7 +157,13 @@ load_on setup c (Field i f) = inl refl
 
 -- a step on no held record
 pub not_held : (setup : Setup) (c : ℕ) (t : Step) → t.held ≡ None → IsStepOn setup c t.word t.kind → StepFits setup c t
-not_held setup c t none on = record { kind = on; word = λ r e. let no_such : None ≡ Some r = sym none ∙ e in let wrong : ⊥ = cc in absurd wrong; own = λ r e. let no_such : None ≡ Some r = sym none ∙ e in let wrong : ⊥ = cc in absurd wrong; left = λ r e. let no_such : None ≡ Some r = sym none ∙ e in let wrong : ⊥ = cc in absurd wrong }
+not_held setup c t none on = record {
+  kind = on;
+  word = λ r e. let no_such : None ≡ Some r = sym none ∙ e in let wrong : ⊥ = cc in absurd wrong;
+  own = λ r e. let no_such : None ≡ Some r = sym none ∙ e in
+      let wrong : ⊥ = cc in absurd wrong;
+  left = λ r e. let no_such : None ≡ Some r = sym none ∙ e in let wrong : ⊥ = cc in absurd wrong;
+}
 
 -- a step that was made still was, after one more
 pub one_more : (n : ℕ) (steps : List Step) (t : Step) → n ≤ length steps → n ≤ length (steps ++ t ∷ [])
@@ -213,7 +219,8 @@ module _ (shape : ShapeFacts) (cover : CoverFacts) (setup : Setup) where
 
   -- the same after a step that changes nothing but words, records and the book of its caller, which answers no call
   pub rebuilt : (t : State (Unit {0}) View) (u : Rule shape cover setup t) (id : ℕ) (v : View) → get_elem? t.views id ≡ some v → v.present ≡ true
-      → (ws : List ℕ) → length ws ≡ size setup.callers setup.records → (records : List Record) (own : Book) (step : Step) → StepFits setup v.own.caller step → own.caller ≡ v.own.caller → own.answered ≡ v.own.answered → own.guard ≡ v.own.guard → own.notes ≡ v.own.notes → own.steps ≡ v.own.steps ++ step ∷ []
+      → (ws : List ℕ) → length ws ≡ size setup.callers setup.records → (records : List Record) (own : Book) (step : Step) → StepFits setup v.own.caller step → own.caller ≡ v.own.caller → own.answered ≡ v.own.answered → own.guard ≡ v.own.guard → own.notes ≡ v.own.notes
+      → own.steps ≡ v.own.steps ++ step ∷ []
       → Places setup records (set u.books v.own.caller own) (read ws)
       → Parts shape cover setup (outline (read ws) records (set u.books v.own.caller own) u.taken_out u.updates) → CountsFit setup.first records (set u.books v.own.caller own)
       → Rule shape cover setup record { words = ws; homes = t.homes; views = set t.views id (with_own v own) }

@@ -23,7 +23,7 @@ use Rattle.record_rule.proofs.Lists.{map_at}
 pub recent_more : (n m k l : ℕ) (g : Guard) (notes : List Note) → n ≤ m → k ≤ l → IsRecent n k g notes → IsRecent m l g notes
 recent_more n m k l g notes updates taken_out h = record {
   updates_since = let a = h.updates_since in omega arith;
-  removals_since = let a = h.removals_since in omega arith;
+  taken_since = let a = h.taken_since in omega arith;
   reached = λ p note at. let a = h.reached p note at in omega arith;
   behind = h.behind;
   waits = h.waits;
@@ -33,7 +33,7 @@ recent_more n m k l g notes updates taken_out h = record {
 recent_set : (n k p : ℕ) (note : Note) (g : Guard) (notes : List Note) → At notes p note → (f word : ℕ) → IsRecent n k g notes → IsRecent n k g (set notes p (note_word note f word))
 recent_set n k p note g notes here f word h = let new : Note = note_word note f word in record {
   updates_since = h.updates_since;
-  removals_since = h.removals_since;
+  taken_since = h.taken_since;
   reached = λ q x at. ⊎_elim (λ a. subst (λ (z : Note). z.reached_at ≤ n) a.1 (h.reached p note here)) (λ a. h.reached q x a.1) (at_set notes p q new x at);
   behind = λ q r x hold at. ⊎_elim (λ a. subst (λ (z : Note). g.start_updates ≤ z.reached_at) a.1 (h.behind p r note (ap (get_elem? g.holds) (sym a.0) ∙ hold) here)) (λ a. h.behind q r x hold a.1) (at_set notes p q new x at);
   waits = λ q r x pends at. ⊎_elim (λ a. subst (λ (z : Note). g.start_updates ≤ z.reached_at) a.1 (h.waits p r note (pends ∙ (λ i. Some (a.0 i, r))) here)) (λ a. h.waits q r x pends a.1) (at_set notes p q new x at);
@@ -54,7 +54,7 @@ module _ (m : Moment) (g : Guard) (step : ℕ) (notes : List Note) where
   recent_started false h = h
   recent_started true h = record {
     updates_since = omega arith;
-    removals_since = omega arith;
+    taken_since = omega arith;
     reached = h.reached;
     behind = λ p r note hold at. absurd (nothing_held g.holds p r hold);
     waits = λ p r note pends at. let none : ⊥ = cc in absurd none;
@@ -114,7 +114,7 @@ module _ (m : Moment) (g new : Guard) (p : ℕ) (t : Option RefParts) (notes : L
   pub recent_reached : IsRecent m.updates m.taken_out g notes → IsRecent m.updates m.taken_out new (set notes p note)
   recent_reached h = record {
     updates_since = since.0;
-    removals_since = since.1;
+    taken_since = since.1;
     reached = λ q x at. ⊎_elim (λ a. subst (λ (z : Note). z.reached_at ≤ m.updates) a.1 (not_later target)) (λ a. h.reached q x a.1) (at_set notes p q note x at);
     behind = λ q r x hold at. ⊎_elim (λ a. subst (λ (z : Note). new.start_updates ≤ z.reached_at) a.1 (behind_it r (here r (ap (get_elem? new.holds) (sym a.0) ∙ hold))))
         (λ a. ⊎_elim (λ y. subst (λ (z : Start). z.updates ≤ x.reached_at) y.1 (h.behind q r x y.0 a.1)) (λ y. absurd (a.0 y.0)) (only q r hold)) (at_set notes p q note x at);

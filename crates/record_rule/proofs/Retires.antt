@@ -129,5 +129,8 @@ module _ (shape : ShapeFacts) (cover : CoverFacts) (covering : CoverLaws cover) 
       → Lawful (Rule shape cover setup) id v word (λ _. packed_number r.generation stamp) (λ n w. (w ≡ retired v r h stamp) × IsOver v r.index 2 n)
   retires id word stamp v r h present same some_index is taken small may s u at = let x = record_of shape cover setup s u id v at present r.index h taken.known in let c : ℕ = v.own.caller in
       let whole : h ≡ share_of TakenOut x.0 = x.3 ∙ ap (λ (q : Standing). share_of q x.0) taken.standing in
-      let rule = kept shape cover covering setup s u id v at present r h stamp some_index small may taken.generation x.0 x.1 (x.2 ∙ ap (Of c) taken.standing) whole in
-      (retired v r h stamp, subst (λ (z : ℕ). Rule shape cover setup record { words = set s.words z (packed_number r.generation stamp); homes = s.homes; views = set s.views id (retired v r h stamp) }) (sym is) rule, (refl, subst (λ (o : Option Share). IsOverAs o 2 (get_or s.words word 0)) (sym taken.known) (finds_known shape cover covering setup s u id v at word r.index 2 h present is some_index (omega arith) taken.known (let l = taken.three in omega arith))))
+      let rule = kept shape cover covering setup s u id v at present r h stamp some_index small may taken.generation x.0 x.1 (x.2 ∙ ap (Of c) taken.standing) whole in (
+        retired v r h stamp,
+        subst (λ (z : ℕ). Rule shape cover setup record { words = set s.words z (packed_number r.generation stamp); homes = s.homes; views = set s.views id (retired v r h stamp) }) (sym is) rule,
+        (refl, subst (λ (o : Option Share). IsOverAs o 2 (get_or s.words word 0)) (sym taken.known) (finds_known shape cover covering setup s u id v at word r.index 2 h present is some_index (omega arith) taken.known (let l = taken.three in omega arith))),
+      )

@@ -150,7 +150,8 @@ module _ (shape : ShapeFacts) (cover : CoverFacts) (setup : Setup) where
   splits_at id v b bs present more s u at = let mine = u.seated id v at in let new : ℕ = length s.views in let left : View = record v { others = bs; alone = false } in let right : View = record v { own = b; others = []; alone = false } in
       let fits : (j : ℕ) (w : View) → get_elem? (set s.views id left ++ right ∷ []) j ≡ some w → SeatFits setup u.books (set u.seats b.caller new) u.taken_out u.updates j w =
       λ j w e. ⊎_elim
-      (λ q. ⊎_elim (λ t. subst (λ (z : ℕ). SeatFits setup u.books (set u.seats b.caller new) u.taken_out u.updates z w) (sym t.0) (subst (SeatFits setup u.books (set u.seats b.caller new) u.taken_out u.updates id) t.1 (left_fits setup u.books u.taken_out u.updates u.seats id new v present mine b bs more)))
+      (λ q. ⊎_elim (λ t. subst (λ (z : ℕ). SeatFits setup u.books (set u.seats b.caller new) u.taken_out u.updates z w) (sym t.0)
+      (subst (SeatFits setup u.books (set u.seats b.caller new) u.taken_out u.updates id) t.1 (left_fits setup u.books u.taken_out u.updates u.seats id new v present mine b bs more)))
       (λ t. others_fit setup u.books u.taken_out u.updates u.seats id new v present mine b bs more j w t.0 (u.seated j w t.1)) (at_set s.views id j left w q))
       (λ q. subst (λ (z : ℕ). SeatFits setup u.books (set u.seats b.caller new) u.taken_out u.updates z w) (sym (q.0 ∙ length-set s.views id left))
       (subst (SeatFits setup u.books (set u.seats b.caller new) u.taken_out u.updates new) q.1 (right_fits setup u.books u.taken_out u.updates u.seats id new v present mine b bs more)))

@@ -80,4 +80,5 @@ module _ (shape : ShapeFacts) (cover : CoverFacts) (setup : Setup) (s : State (U
         subst (λ (ws : List ℕ). Rule shape cover setup record { words = ws; homes = s.homes; views = set s.views id (record v { own = own }) }) (sym (set-get_or s.words word 0))
         (rebuilt shape cover setup s u id v at present s.words u.wide u.records own t finds refl refl refl refl refl
         (places_calm setup u.records u.books m v.own.caller v.own own book refl refl (calm_after v.own.drawing v.setup.records t calm) u.places)
-        (subst (Parts shape cover setup) (sym (outline_same m m u.taken_out u.updates refl refl u.books v.own.caller v.own own book record { guard = refl; notes = refl; roots = refl; locks = refl; answered = refl; offer = refl } u.records)) u.parts) (counts_calm setup.first u.records u.books v.own.caller v.own own book u.counts refl))
+        (subst (Parts shape cover setup) (sym (outline_same m m u.taken_out u.updates refl refl u.books v.own.caller v.own own book record { guard = refl; notes = refl; roots = refl; locks = refl; answered = refl; offer = refl } u.records)) u.parts)
+        (counts_calm setup.first u.records u.books v.own.caller v.own own book u.counts refl))

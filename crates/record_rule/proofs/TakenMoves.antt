@@ -60,7 +60,8 @@ module _ (setup : Setup) where
     once = fits.once;
     indexed = λ n r e. (fits.each n r e).0;
     unlisted = λ i generation m n body at e. let x = map_at shape_cell records i (linked generation body m) at in
-        let lt : generation < generation = older_taken (map taken_cell records) taken_out (refer (i + 1) generation) fits (subst (λ (k : ℕ). At (map taken_cell records) k (untaken generation)) (let q : i ≡ i + 1 - 1 = omega arith in q) (at_map taken_cell records i x.0 x.1 ∙ ap some (linked_at generation m body x.0.place x.0 x.2))) n (refer (i + 1) generation) e refl in omega arith;
+        let lt : generation < generation = older_taken (map taken_cell records) taken_out (refer (i + 1) generation) fits
+        (subst (λ (k : ℕ). At (map taken_cell records) k (untaken generation)) (let q : i ≡ i + 1 - 1 = omega arith in q) (at_map taken_cell records i x.0 x.1 ∙ ap some (linked_at generation m body x.0.place x.0 x.2))) n (refer (i + 1) generation) e refl in omega arith;
   }
 
   module _ (takings : List TakenCell) (taken_out : List RefParts) (i generation : ℕ) (fits : TakenFits setup takings taken_out) (at : At takings i (untaken generation)) (late : setup.first ≤ generation) where

@@ -26,7 +26,7 @@ use Rattle.record_rule.specs.Inputs.{ShapeCell, linked, out, shape_cell, SchemeC
 use Rattle.record_rule.specs.Facts.{At, with_link, clean, Near, ShapeFacts, FitsNext, CoverFacts}
 use Rattle.record_rule.specs.Taken.{TakenFits}
 use Rattle.record_rule.specs.Held.{HeldFits}
-use Rattle.record_rule.specs.Laws.{LeadsTo, NodeIs, Keeps, ShapeLaws, CoverLaws}
+use Rattle.record_rule.specs.Laws.{NodeStep, LeadsTo, NodeIs, Keeps, ShapeLaws, CoverLaws}
 use Rattle.record_rule.specs.World.{Rule}
 use Rattle.record_rule.specs.Kinds.{Lawful}
 use Rattle.record_rule.specs.Links.{Origin, from_place, index_of, generation_at, note_in, near_of, Holds, IsNextOf, node_step, link_word, UnlinkedRecord, ToldUnlink}
@@ -71,9 +71,13 @@ module _ (shape : ShapeFacts) (cover : CoverFacts) (shaped : ShapeLaws shape) (s
   abbrev pred : NodeIs shape was.shapes (near_of v o) f (clean gone)
   pred = node_with shape cover setup is_setup s u id v at present o n f (clean gone) low old_is
 
+  -- the step, as they take it
+  abbrev step : NodeStep
+  step = record { caller = c; number = length v.own.answered + 1; near = near_of v o; field = f; old = clean gone; call = None }
+
   -- the record is linked, and another one
   gone_law : LeadsTo was.shapes gone × (index_of o - 1 ≢ k)
-  gone_law = shaped.gone_linked setup (shape_input was) (near_of v o) f (clean gone) gone (note_in v.own.notes p) new next None u.parts.shape pred refl may
+  gone_law = shaped.gone_linked setup (shape_input was) step gone (note_in v.own.notes p) new next u.parts.shape pred refl may
 
   -- what the caller knows of the node behind it fits
   next_fits : (next ≡ None) ⊎ FitsNext shape was.shapes new.target next
@@ -143,16 +147,19 @@ module _ (shape : ShapeFacts) (cover : CoverFacts) (shaped : ShapeLaws shape) (s
         record { cells = set (map shape_cell records) (index_of o - 1) (cell_after shape cover setup is_setup s u id v at present o n word f is low high same holds new is_link None tt t mine records taken_out (clean gone)); taken_out = taken_out; locks = was.locks }
     kept = subst (λ (l : List ShapeCell). Keeps shape setup (shape_input was) (trace was) (near_of v o) f (clean gone) pred new None
         record { cells = set l (index_of o - 1) (cell_after shape cover setup is_setup s u id v at present o n word f is low high same holds new is_link None tt t mine records taken_out (clean gone)); taken_out = taken_out; locks = was.locks }) cells_are
-        (shaped.unlinks setup (shape_input was) (trace was) c (length v.own.answered + 1) (near_of v o) f (clean gone) gone (note_in v.own.notes p) new next None k r.generation r.marked (drop 3 r.row) (given shape cover setup s u) pred refl q.fits next_fits is_link may)
+        (shaped.unlinks setup (shape_input was) (trace was) step gone (note_in v.own.notes p) new next k r.generation r.marked (drop 3 r.row) (given shape cover setup s u) pred refl q.fits next_fits is_link may)
 
     -- An exchange that finds the link to the record leaves the new one
     unlinks : own_in (link_word setup o (clean gone)) ≡ generation_at setup o → (x : View) × Rule shape cover setup record { words = set s.words word (link_word setup o new); homes = s.homes; views = set s.views id x } × UnlinkedRecord shape v o f gone new x
     unlinks own_is = (
       w,
-      leaves shape cover setup is_setup s u id v at present o n word f is low high same holds new is_link None tt t mine records taken_out (clean gone) old_is node_there (finds_held shape cover setup is_setup s u id v at present o Exchange f (link_word v.setup o (clean gone)) (link_word v.setup o new) (subst (λ (z : Setup). own_in (link_word z o (clean gone)) ≡ generation_at setup o) (sym same) own_is) (subst (λ (z : Setup). own_in (link_word z o new) ≡ generation_at setup o) (sym same) (own_in-packed_link (generation_at setup o) new is_link)) (inr (inr refl))) (starts_more u.taken_out (gone ∷ []))
+      leaves shape cover setup is_setup s u id v at present o n word f is low high same holds new is_link None tt t mine records taken_out (clean gone) old_is node_there
+          (finds_held shape cover setup is_setup s u id v at present o Exchange f (link_word v.setup o (clean gone)) (link_word v.setup o new) (subst (λ (z : Setup). own_in (link_word z o (clean gone)) ≡ generation_at setup o) (sym same) own_is)
+          (subst (λ (z : Setup). own_in (link_word z o new) ≡ generation_at setup o) (sym same) (own_in-packed_link (generation_at setup o) new is_link)) (inr (inr refl))) (starts_more u.taken_out (gone ∷ []))
           (taken_places setup u.records u.books m c k count v.own w.own r u.places (book shape cover setup s u id v at present) q.there gone_place refl
           (ap (λ (e : ℕ). set v.own.mine k (Some (record { standing = TakenOut; generation = e; taken_number = count; words = take 3 r.row }))) (sym q.generation)) (calm_after v.own.drawing v.setup.records t tt))
-          (counts_moved setup.first u.records u.books c v.own w.own (book shape cover setup s u id v at present) u.counts k r r' q.there (balances_same setup.first v.own.moves v.own.moves r r' refl refl refl refl refl (sym (ap drawn_as gone_place)) (sym (ap retired_as gone_place)) (sym (ap freed_as gone_place)))) taken held (scheme covering) kept,
+          (counts_moved setup.first u.records u.books c v.own w.own (book shape cover setup s u id v at present) u.counts k r r' q.there
+          (balances_same setup.first v.own.moves v.own.moves r r' refl refl refl refl refl (sym (ap drawn_as gone_place)) (sym (ap retired_as gone_place)) (sym (ap freed_as gone_place)))) taken held (scheme covering) kept,
       record {
         updates = u.updates;
         taken_out = u.taken_out;

@@ -34,7 +34,8 @@ module _ (s : ShapeFacts) where
   }
 
   -- an own record is linked
-  pub waits_linked : (cells : List ShapeCell) (taken_out : List RefParts) (start : ℕ) (r own : RefParts) (note : Note) (body : List ℕ) (m : ℕ) → At cells (own.index - 1) hidden → 0 < own.index → IsNewGeneration s taken_out own → WaitFits s cells taken_out start r note → WaitFits s (set cells (own.index - 1) (linked own.generation body m)) taken_out start r note
+  pub waits_linked : (cells : List ShapeCell) (taken_out : List RefParts) (start : ℕ) (r own : RefParts) (note : Note) (body : List ℕ) (m : ℕ) → At cells (own.index - 1) hidden → 0 < own.index → IsNewGeneration s taken_out own → WaitFits s cells taken_out start r note
+      → WaitFits s (set cells (own.index - 1) (linked own.generation body m)) taken_out start r note
   waits_linked cells taken_out start r own note body m free some_own name w = let o : ℕ = own.index - 1 in let new : ShapeCell = linked own.generation body m in record {
     indexed = w.indexed;
     was_linked = ⊎_elim (λ x. inl (x.0, x.1, x.2, set_else cells o (r.index - 1) new (λ e. let none : hidden ≡ linked r.generation x.0 x.1 = one_at cells o hidden (linked r.generation x.0 x.1) free (subst (λ (z : ℕ). At cells z (linked r.generation x.0 x.1)) e x.3) in cc) ∙ x.3)) inr w.was_linked;
@@ -59,7 +60,8 @@ module _ (s : ShapeFacts) where
     fits = λ b seen. ⊎_elim
         (λ y. ⊎_elim (λ p. let none : ⊥ = (let e = p.1 in cc) in absurd none) (λ p. w.fits b (seen.0, inl p.1)) (at_set cells i (r.index - 1) new (linked r.generation b seen.0) y))
         (λ y. ⊎_elim
-        (λ p. let a : generation ≡ r.generation = (let e = p.1 in cc) in let c : body ≡ b = (let e = p.1 in cc) in let d : m ≡ seen.0 = (let e = p.1 in cc) in w.fits b (seen.0, inl (subst (λ (z : ℕ). At cells z (linked r.generation b seen.0)) (sym p.0) (at ∙ (λ j. some (linked (a j) (c j) (d j)))))))
+        (λ p. let a : generation ≡ r.generation = (let e = p.1 in cc) in let c : body ≡ b = (let e = p.1 in cc) in
+        let d : m ≡ seen.0 = (let e = p.1 in cc) in w.fits b (seen.0, inl (subst (λ (z : ℕ). At cells z (linked r.generation b seen.0)) (sym p.0) (at ∙ (λ j. some (linked (a j) (c j) (d j)))))))
         (λ p. w.fits b (seen.0, inr (y.0, p.1))) (at_set cells i (r.index - 1) new (out r.generation b seen.0 y.0) y.1)) seen.1;
     keyed = w.keyed;
     bare = w.bare;
@@ -76,7 +78,11 @@ module _ (s : ShapeFacts) where
   waits_hidden cells cells' taken_out start r note h w = record {
     indexed = w.indexed;
     was_linked = ⊎_elim (λ x. inl (leads_after cells cells' h r x)) inr w.was_linked;
-    fits = λ b seen. w.fits b (seen.0, ⊎_elim (λ y. inl (cell_before cells cells' h (r.index - 1) (linked r.generation b seen.0) y (λ q. let none : ⊥ = cc in none))) (λ y. inr (y.0, cell_before cells cells' h (r.index - 1) (out r.generation b seen.0 y.0) y.1 (λ q. let none : ⊥ = cc in none))) seen.1);
+    fits = λ b seen. w.fits b (
+      seen.0,
+      ⊎_elim (λ y. inl (cell_before cells cells' h (r.index - 1) (linked r.generation b seen.0) y (λ q. let none : ⊥ = cc in none)))
+          (λ y. inr (y.0, cell_before cells cells' h (r.index - 1) (out r.generation b seen.0 y.0) y.1 (λ q. let none : ⊥ = cc in none))) seen.1,
+    );
     keyed = w.keyed;
     bare = w.bare;
   }
@@ -112,7 +118,8 @@ module _ (s : ShapeFacts) where
           (y.0, y.1, x.2, subst (λ (z : ℕ). At (set cells i new) z (linked r.generation y.0 y.1)) (sym e) (set_here cells i new (below_at cells i cell at) ∙ ap some y.2))
 
   -- a confirmed record is held
-  pub waits_confirmed : (records : List Record) (taken_out : List RefParts) (start : ℕ) (r : RefParts) (note : Note) → WaitFits s (map shape_cell records) taken_out start r note → (c : SchemeCell) → At (map scheme_cell records) (r.index - 1) c → IsThereAs c r.generation start → HoldFits s (map shape_cell records) start r note
+  pub waits_confirmed : (records : List Record) (taken_out : List RefParts) (start : ℕ) (r : RefParts) (note : Note) → WaitFits s (map shape_cell records) taken_out start r note → (c : SchemeCell) → At (map scheme_cell records) (r.index - 1) c
+      → IsThereAs c r.generation start → HoldFits s (map shape_cell records) start r note
   waits_confirmed records taken_out start r note w c at is = let y = map_at scheme_cell records (r.index - 1) c at in by y.0 y.1 (seen_place start r.generation y.0.place y.0 (subst (λ (z : SchemeCell). IsThereAs z r.generation start) (sym y.2) is))
     where
       Seen : ℕ → ℕ → Record → Type 0

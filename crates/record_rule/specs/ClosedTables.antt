@@ -9,6 +9,7 @@ use Rattle.row_words.specs.Refs.{RefParts}
 use Rattle.record_rule.specs.Records.{IsSetup, Record}
 use Rattle.record_rule.specs.Inputs.{taken_cell, answered_of, offer_of, Outline, outline, shape_input, scheme_input, trace}
 use Rattle.record_rule.specs.Facts.{At, ShapeFacts, CoverFacts}
+use Rattle.record_rule.specs.Walks.{read_for, rows_ground}
 use Rattle.record_rule.specs.Taken.{TakenFits}
 use Rattle.record_rule.specs.Recorded.{StepFits}
 use Rattle.record_rule.specs.Histories.{HistoryFits, IsWaiting}
@@ -56,6 +57,8 @@ pub record ClosedFits (s : ShapeFacts) (c : CoverFacts) (setup : Setup) (words :
   -- the history is legal, and each answered call stands in it once; what waits behind it no caller has taken up
   pub waiting : List Update
   pub whole : IsWhole s setup books history waiting
+  -- what a walk over the words reads is what the set's machine leaves behind the history
+  pub read : read_for setup.set (rows_ground s setup.roots (memory setup.callers setup.records words).rows) (history ++ waiting)
   -- the facts of the set and of the reclaimer
   pub formed : s.formed setup (shape_input (outline_left setup words books records taken_out (history ++ waiting)))
   pub told : s.told setup (shape_input (outline_left setup words books records taken_out (history ++ waiting))) (trace (outline_left setup words books records taken_out (history ++ waiting)))

@@ -25,12 +25,16 @@ retired_had Limbo = 1
 retired_had Free = 1
 retired_had Spent = 1
 
+-- where a record is that its caller has in a way that counts: on a shelf it counts, too
+abbrev pub left_as : (Standing → ℕ) → Place → ℕ
+left_as had Undrawn = 0
+left_as had Root = 0
+left_as had Linked = 0
+left_as had (Shelved k) = 1
+left_as had (Of c s) = had s
+
 abbrev pub retired_as : Place → ℕ
-retired_as Undrawn = 0
-retired_as Root = 0
-retired_as Linked = 0
-retired_as (Shelved k) = 1
-retired_as (Of c s) = retired_had s
+retired_as = left_as retired_had
 
 -- and 1 for one that was freed, too
 abbrev pub freed_had : Standing → ℕ
@@ -43,11 +47,7 @@ freed_had Free = 1
 freed_had Spent = 1
 
 abbrev pub freed_as : Place → ℕ
-freed_as Undrawn = 0
-freed_as Root = 0
-freed_as Linked = 0
-freed_as (Shelved k) = 1
-freed_as (Of c s) = freed_had s
+freed_as = left_as freed_had
 
 -- how many lives of a record have ended: its generations before this one
 abbrev pub lives_before : ℕ → Record → ℕ

@@ -78,6 +78,9 @@ pub record ShapeFacts : Type 1 where
   pub formed : Setup → ShapeInput → Type 0
   -- what ties them to the history: for a set, that the keys present are the fold of the updates
   pub told : Setup → ShapeInput → Trace → Type 0
+  -- how a walk reads the set off the records: which words of a body lead on, and whether a record with this body has its key in the set
+  pub leads : ℕ → List ℕ → Bool
+  pub present : List ℕ → Bool
   -- what is so where a caller whose guard started there keeps this; no step of another ends it
   pub knows : Setup → ShapeInput → List Update → Start → Known → Type 0
   -- whether a caller may let others decide its call

@@ -5,22 +5,14 @@ use Rattle.record_memory.specs.declared.books.View.{View}
 use Rattle.record_memory.specs.declared.books.Share.{Share}
 use Rattle.record_memory.specs.declared.books.Guard.{Guard}
 use Rattle.record_memory.specs.declared.books.Standing.{Standing}
-use Rattle.record_memory.specs.declared.books.Standing.TheVariants.{Handing, Own, Spare, TakenOut, Limbo, Free, Spent}
+use Rattle.record_memory.specs.declared.books.Standing.TheVariants.{Free, Spent}
 use Rattle.record_memory.specs.Memory.{word_at}
 use Rattle.row_words.specs.Refs.{RefParts, refer}
 use Rattle.row_words.specs.Packing.{number_in}
 use Rattle.record_rule.specs.Facts.{Moment, LimboRecord, CoverFacts}
 use Rattle.record_rule.specs.Kinds.{freed_more, control_load}
 use Rattle.record_rule.specs.Links.{with_step, AreWhole}
-
-abbrev pub is_limbo : Standing → Bool
-is_limbo (Handing n) = false
-is_limbo Own = false
-is_limbo Spare = false
-is_limbo TakenOut = false
-is_limbo Limbo = true
-is_limbo Free = false
-is_limbo Spent = false
+use Rattle.record_rule.specs.Standings.{is_limbo}
 
 -- a record at the last generation is never handed out again
 abbrev pub freed_standing : ℕ → Standing

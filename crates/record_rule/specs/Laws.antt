@@ -11,6 +11,7 @@ use Rattle.row_words.specs.Refs.{RefParts, LinkParts, IsRef, refer}
 use Rattle.row_words.specs.Packing.{IsLink, packed_key, packed_number}
 use Rattle.record_rule.specs.Inputs.{ShapeCell, hidden, root, linked, out, ShapeInput, Start, start_of, Trace, SchemeCell, unseen, rooted, reachable, unpublished, unretired, limbo, SchemeInput}
 use Rattle.record_rule.specs.Guards.{started_at}
+use Rattle.record_rule.specs.Walks.{LeadsOn, IsOnWalk, cells_ground, HasRoots, read_for}
 use Rattle.record_rule.specs.Facts.{At, link_at, with_link, mark_bit, HasMark, clean, Near, at_root, at_held, Known, of_held, known_near, ShapeFacts, Stands, FitsNear, FitsNext, IsLegalUpdate, update_for, Moment, Reach, LimboRecord, CoverFacts}
 
 abbrev pub root_body : ℕ → List ℕ
@@ -42,6 +43,19 @@ with_update updates (Some u) = updates ++ u ∷ []
 
 abbrev pub grown : Trace → Option Update → Trace
 grown h u = record h { updates = with_update h.updates u }
+
+-- A step on a node's link: whose it is, the number of its caller's call, the node and its word, the link that it expects, and the call that it decides
+pub record NodeStep : Type 0 where
+  pub caller : ℕ
+  pub number : ℕ
+  pub near : Near
+  pub field : ℕ
+  pub old : LinkParts
+  pub call : Option Call
+
+-- the update that it decides
+abbrev pub update_by : NodeStep → Option Update
+update_by t = update_for t.caller t.number t.call
 
 -- some records that were taken out are hidden, and all else is as it was
 pub data IsHidden (old : ShapeCell) : ShapeCell → Type 0 where
@@ -116,27 +130,33 @@ module _ (s : ShapeFacts) where
   pub record ShapeLaws : Type 0 where
     -- A new table has blank roots, no key and no history
     pub starts : (setup : Setup) (h : Trace) → 0 < setup.roots → setup.roots ≤ setup.records → h.updates ≡ [] → Stands s setup (opening_shape setup) h
+    -- A walk over the records comes to a linked one wherever it goes on
+    pub walks : (setup : Setup) (x : ShapeInput) (h : Trace) → Given setup x h → (body : List ℕ) (t : RefParts) → IsOnWalk (cells_ground s x.cells) body → LeadsOn s.leads body t → LeadsTo x.cells t
+    -- And it reads what the machine of the set's name leaves behind the updates
+    pub reads : (setup : Setup) (x : ShapeInput) (h : Trace) → Given setup x h → HasRoots setup x.cells → read_for s.name (cells_ground s x.cells) h.updates
     -- The key of a record that is linked or was taken out changes no more
     pub keys_stand : (setup : Setup) (x : ShapeInput) (near : Near) (f : ℕ) (l : LinkParts) → s.formed setup x → (n : NodeIs x.cells near f l) → s.settled 4 n.body ≡ true
     -- A link that may be followed, without a mark, leads to a linked record at its generation; so a record that was taken out has a mark there
     pub reaches : (setup : Setup) (x : ShapeInput) (near : Near) (f : ℕ) (l : LinkParts) (t : RefParts) → s.formed setup x → NodeIs x.cells near f l → s.may_hold near f → ¬ HasMark l → l.target ≡ Some t → LeadsTo x.cells t
     -- An exchange that the set allows by what its caller knows keeps the facts, and decides as the machine does
-    pub exchanges : (setup : Setup) (x : ShapeInput) (h : Trace) (c number : ℕ) (near : Near) (f : ℕ) (old new : LinkParts) (call : Option Call) → Given setup x h → (n : NodeIs x.cells near f old)
-        → IsLink new → s.may_exchange setup near f old new call
-        → Keeps setup x h near f old n new (update_for c number call) (record x { cells = slice_set x.cells n.index (relinked x.cells near f old n new (length h.updates)) })
+    pub exchanges : (setup : Setup) (x : ShapeInput) (h : Trace) (t : NodeStep) (new : LinkParts) → Given setup x h → (n : NodeIs x.cells t.near t.field t.old) → IsLink new → s.may_exchange setup t.near t.field t.old new t.call
+        → Keeps setup x h t.near t.field t.old n new (update_by t) (record x { cells = slice_set x.cells n.index (relinked x.cells t.near t.field t.old n new (length h.updates)) })
     -- An own record with this body may stand between the node and its next
-    pub publishes : (setup : Setup) (x : ShapeInput) (h : Trace) (c number : ℕ) (near : Near) (f : ℕ) (old : LinkParts) (own : RefParts) (body : List ℕ) (marked : ℕ) (next : Option Near) (call : Option Call) → Given setup x h → (n : NodeIs x.cells near f old)
-        → FitsNext s x.cells old.target next → At x.cells (own.index - 1) hidden → IsRef own → length body ≡ 5 → IsNewGeneration x.taken_out own → s.may_publish setup near f old body next call
-        → Keeps setup x h near f old n (clean own) (update_for c number call)
-        (record x { cells = slice_set (slice_set x.cells (own.index - 1) (linked own.generation body marked)) n.index (relinked x.cells near f old n (clean own) (length h.updates)) })
+    pub publishes : (setup : Setup) (x : ShapeInput) (h : Trace) (t : NodeStep) (own : RefParts) (body : List ℕ) (marked : ℕ) (next : Option Near) → Given setup x h → (n : NodeIs x.cells t.near t.field t.old)
+        → FitsNext s x.cells t.old.target next → At x.cells (own.index - 1) hidden → IsRef own → length body ≡ 5 → IsNewGeneration x.taken_out own → s.may_publish setup t.near t.field t.old body next t.call
+        → Keeps setup x h t.near t.field t.old n (clean own) (update_by t)
+        (record x { cells = slice_set (slice_set x.cells (own.index - 1) (linked own.generation body marked)) n.index (relinked x.cells t.near t.field t.old n (clean own) (length h.updates)) })
     -- The record that may be taken out is linked, and isn't its own predecessor
-    pub gone_linked : (setup : Setup) (x : ShapeInput) (near : Near) (f : ℕ) (old : LinkParts) (gone : RefParts) (note : Note) (new : LinkParts) (next : Option Near) (call : Option Call) → s.formed setup x → (n : NodeIs x.cells near f old) → old.target ≡ Some gone → s.may_unlink setup near f old (at_held gone note) new next call
-        → LeadsTo x.cells gone × (n.index ≢ gone.index - 1)
+    pub gone_linked : (setup : Setup) (x : ShapeInput) (t : NodeStep) (gone : RefParts) (note : Note) (new : LinkParts) (next : Option Near) → s.formed setup x → (n : NodeIs x.cells t.near t.field t.old)
+        → t.old.target ≡ Some gone → s.may_unlink setup t.near t.field t.old (at_held gone note) new next t.call → LeadsTo x.cells gone × (n.index ≢ gone.index - 1)
     -- A record is taken off the link of its predecessor, and no key is
-    pub unlinks : (setup : Setup) (x : ShapeInput) (h : Trace) (c number : ℕ) (near : Near) (f : ℕ) (old : LinkParts) (gone : RefParts) (note : Note) (new : LinkParts) (next : Option Near) (call : Option Call) (i generation m : ℕ) (body : List ℕ) → Given setup x h → (n : NodeIs x.cells near f old) → old.target ≡ Some gone
-        → FitsNear s x.cells (at_held gone note) i generation body m → (next ≡ None) ⊎ FitsNext s x.cells new.target next → IsLink new → s.may_unlink setup near f old (at_held gone note) new next call
-        → Keeps setup x h near f old n new (update_for c number call)
-        (record x { cells = slice_set (slice_set x.cells i (out generation body m (length x.taken_out))) n.index (relinked x.cells near f old n new (length h.updates)); taken_out = x.taken_out ++ gone ∷ [] })
+    pub unlinks : (setup : Setup) (x : ShapeInput) (h : Trace) (t : NodeStep) (gone : RefParts) (note : Note) (new : LinkParts) (next : Option Near) (i generation m : ℕ) (body : List ℕ) → Given setup x h → (n : NodeIs x.cells t.near t.field t.old)
+        → t.old.target ≡ Some gone → FitsNear s x.cells (at_held gone note) i generation body m → (next ≡ None) ⊎ FitsNext s x.cells new.target next → IsLink new → s.may_unlink setup t.near t.field t.old (at_held gone note) new next t.call
+        → Keeps setup x h t.near t.field t.old n new (update_by t)
+        (record x {
+          cells = slice_set (slice_set x.cells i (out generation body m (length x.taken_out))) n.index (relinked x.cells t.near t.field t.old n new (length h.updates));
+          taken_out = x.taken_out ++ gone ∷ [];
+        })
     -- A link that may be followed though its node may be marked or taken out behind the guard's start leads to a linked record, or to one that was taken out behind that start, too
     pub follows : (setup : Setup) (x : ShapeInput) (h : Trace) (near : Near) (f : ℕ) (l : LinkParts) (start : Start) (c : ℕ) (kept : List ℕ) (t : RefParts) → Given setup x h → (n : NodeIs x.cells near f l) → At h.starts c start
         → ((k generation m : ℕ) (body : List ℕ) → n.cell ≡ out generation body m k → start.taken_out ≤ k) → s.knows setup x h.updates start (known_near near kept) → s.may_hold_frozen setup near kept f → l.target ≡ Some t

@@ -1,10 +1,15 @@
 -- A set in which nothing is ever linked, and a reclaimer that frees nothing and lets nothing be reached: the least that keeps the laws. Tests of the table alone use them.
-use Rattle.std.specs.Prelude.{ℕ, zero, suc, replicate, true, false, Option, Some, None, refl}
-use Rattle.std.proofs.Common.{arith, sym, inl}
+use Rattle.std.specs.Prelude.{◌≡◌, ℕ, zero, suc, List, [], replicate, true, false, Option, Some, None, refl}
+use Rattle.std.proofs.Common.{arith, sym, ap, ◌∙◌, inl}
+use Rattle.std.proofs.lemmas.Bool.{both_ways}
 use mathlib.Core.Option.{some-ne-none}
 use Rattle.row_words.specs.Refs.{RefParts}
+use Rattle.set_model.specs.declared.calls.Update.{Update}
 use Rattle.set_model.specs.declared.names.SetName.TheVariants.{Plain}
 use Rattle.set_model.specs.declared.names.ReclaimerName.TheVariants.{Nothing}
+use Rattle.set_model.specs.Keys.{contains}
+use Rattle.set_model.specs.Histories.{keys_of}
+use Rattle.set_model.proofs.KeySets.{contains-empty}
 use Rattle.record_rule.specs.Facts.{At, ShapeFacts, CoverFacts}
 use Rattle.record_rule.specs.Guards.{blank_guard}
 use Rattle.record_rule.specs.Laws.{ShapeLaws, CoverLaws}
@@ -13,7 +18,9 @@ abbrev pub least_shape : ShapeFacts
 least_shape = record {
   name = Plain;
   formed = λ setup x. Unit {0};
-  told = λ setup x h. Unit {0};
+  told = λ setup x h. h.updates ≡ [];
+  leads = λ f body. false;
+  present = λ body. false;
   knows = λ setup x updates start k. Unit {0};
   helped = ⊥;
   settled = λ f body. true;
@@ -28,18 +35,23 @@ least_shape = record {
 
 pub least_shape_laws : ShapeLaws least_shape
 least_shape_laws = record {
-  starts = λ setup h some fit none. (tt, tt);
+  starts = λ setup h some fit none. (tt, none);
+  walks = λ setup x h given body t on step. let none : ⊥ = (let z = step.on in cc) in absurd none;
+  reads = λ setup x h given roots k. (
+    λ has. absurd (both_ways (contains (keys_of h.updates) k) (ap (λ (u : List Update). contains (keys_of u) k) given.1.1 ∙ contains-empty k) has),
+    λ r. let none : ⊥ = (let z = r.present in cc) in absurd none,
+  );
   keys_stand = λ setup x near f l formed n. refl;
   reaches = λ setup x near f l t formed n may plain to. absurd may;
-  exchanges = λ setup x h c number near f old new call given n link may. absurd may;
-  publishes = λ setup x h c number near f old own body marked next call given n fits is own_ref long name may. absurd may;
-  gone_linked = λ setup x near f old gone note new next call formed n to may. absurd may;
+  exchanges = λ setup x h t new given n link may. absurd may;
+  publishes = λ setup x h t own body marked next given n fits is own_ref long name may. absurd may;
+  gone_linked = λ setup x t gone note new next formed n to may. absurd may;
   follows = λ setup x h near f l start c kept t given n at behind known may to. absurd may;
-  unlinks = λ setup x h c number near f old gone note new next call i generation m body given n to fits behind link may. absurd may;
-  hides = λ setup x h cells given hidden. record { stands = (tt, tt); known = λ start k e. tt };
+  unlinks = λ setup x h t gone note new next i generation m body given n to fits behind link may. absurd may;
+  hides = λ setup x h cells given hidden. record { stands = (tt, given.1.1); known = λ start k e. tt };
   shows = λ setup x h near f l start c target given n at seen behind. tt;
   nothing = λ setup x updates start r. tt;
-  begins = λ setup x h c given. tt;
+  begins = λ setup x h c given. given.1.1;
 }
 
 abbrev pub least_cover : CoverFacts

@@ -2,6 +2,7 @@ pub mod Records
 pub mod Inputs
 pub mod Machines
 pub mod Facts
+pub mod Walks
 pub mod Laws
 pub mod Guards
 pub mod Least
@@ -10,6 +11,7 @@ pub mod Held
 pub mod Known
 pub mod Histories
 pub mod Recorded
+pub mod Standings
 pub mod Counts
 pub mod World
 pub mod Opening

@@ -70,7 +70,7 @@ carries v = carried_if v.present v
 -- A pass that noted so many updates and so many records taken out noted all up to the start of its caller's guard, and all updates up to where each record was reached that its caller has a note of. What its caller holds or waits for was reached behind that start
 pub record IsRecent (updates taken_out : ℕ) (g : Guard) (notes : List Note) : Type 0 where
   pub updates_since : g.start_updates ≤ updates
-  pub removals_since : g.start_taken_out ≤ taken_out
+  pub taken_since : g.start_taken_out ≤ taken_out
   pub reached : (p : ℕ) (note : Note) → At notes p note → note.reached_at ≤ updates
   pub behind : (p : ℕ) (r : RefParts) (note : Note) → At g.holds p (Some r) → At notes p note → g.start_updates ≤ note.reached_at
   pub waits : (p : ℕ) (r : RefParts) (note : Note) → g.pending ≡ Some (p, r) → At notes p note → g.start_updates ≤ note.reached_at
@@ -88,13 +88,14 @@ pub record SeatFits (setup : Setup) (books : List Book) (seats : List ℕ) (take
   -- it noted what its callers' guards and notes speak of
   pub recent : (p : ℕ) (b : Book) → At (carries v) p b → IsRecent (length v.seen_updates) (length v.seen_taken_out) b.guard b.notes
 
--- no step changes these: the words of the pool, which the table doesn't have yet, and those that its allocator doesn't use
+-- what no step breaks: nothing changes the words of the pool, which the table doesn't have yet, nor those that its allocator doesn't use, and a caller draws within its range
 pub record AreUntouched (setup : Setup) (lock blank drawn : ℕ) (shelves cursors : List ℕ) : Type 0 where
   pub lock_is : lock ≡ 0
   pub blank_is : blank ≡ 0
   pub shelves_are : shelves ≡ replicate 16 0
   pub cursors_are : setup.allocator ≡ Bump → cursors ≡ replicate setup.callers 0
   pub drawn_is : setup.allocator ≡ Once → drawn ≡ setup.roots
+  pub cursors_within : setup.allocator ≡ Once → (c n : ℕ) → At cursors c n → n ≤ range setup
 
 module _ (setup : Setup) (records : List Record) (books : List Book) where
   -- where each record is

@@ -9,6 +9,7 @@ use Rattle.record_memory.specs.declared.books.View.{View}
 use Rattle.record_memory.specs.declared.books.Book.{Book}
 use Rattle.record_rule.specs.Records.{IsSetup}
 use Rattle.record_rule.specs.Facts.{ShapeFacts, CoverFacts}
+use Rattle.record_rule.specs.Laws.{ShapeLaws}
 use Rattle.record_rule.specs.World.{Rule, carries}
 use Rattle.record_rule.specs.ClosedTables.{ClosedFits}
 use Rattle.record_rule.proofs.Closes.{closed_fits}
@@ -32,8 +33,8 @@ module _ (setup : Setup) (v : View) (last : IsLastOf setup v) where
   many = sym (length-map (carries v) (λ (b : Book). b.caller)) ∙ ap length last ∙ numbers_many 0 setup.callers
 
   -- the end of a table is one that its rule allows
-  ended_fits : (s : ShapeFacts) (r : CoverFacts) (words : List ℕ) → IsSetup setup → IsEndOf (Rule s r setup) v words → ClosedFits s r setup words (carries v) v.front
-  ended_fits s r words numbers e = subst (λ ws. ClosedFits s r setup ws (carries v) v.front) e.words_are (closed_fits s r setup e.state e.rule e.seat v e.known many numbered numbers)
+  ended_fits : (s : ShapeFacts) (r : CoverFacts) → ShapeLaws s → (words : List ℕ) → IsSetup setup → IsEndOf (Rule s r setup) v words → ClosedFits s r setup words (carries v) v.front
+  ended_fits s r laws words numbers e = subst (λ ws. ClosedFits s r setup ws (carries v) v.front) e.words_are (closed_fits s r setup e.state e.rule e.seat v e.known many numbered laws numbers)
 
-pub closed_by : (s : ShapeFacts) (r : CoverFacts) (setup : Setup) (v : View) (c : Closed) → IsSetup setup → closed_setup c ≡ setup → closed_view c ≡ v → IsEndOf (Rule s r setup) v (closed_words c) → IsLastOf setup v → IsClosedBy s r c
-closed_by s r setup v c numbers k w e last = subst (λ (z : Setup × View). ClosedFits s r z.0 (closed_words c) (carries z.1) z.1.front) (λ j. (sym k j, sym w j)) (ended_fits setup v last s r (closed_words c) numbers e)
+pub closed_by : (s : ShapeFacts) (r : CoverFacts) → ShapeLaws s → (setup : Setup) (v : View) (c : Closed) → IsSetup setup → closed_setup c ≡ setup → closed_view c ≡ v → IsEndOf (Rule s r setup) v (closed_words c) → IsLastOf setup v → IsClosedBy s r c
+closed_by s r laws setup v c numbers k w e last = subst (λ (z : Setup × View). ClosedFits s r z.0 (closed_words c) (carries z.1) z.1.front) (λ j. (sym k j, sym w j)) (ended_fits setup v last s r laws (closed_words c) numbers e)

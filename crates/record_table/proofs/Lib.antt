@@ -1,4 +1,5 @@
 pub mod Repeated
+pub mod RowLoads
 pub mod Made
 pub mod Copies
 pub mod Closings

@@ -26,4 +26,5 @@ recorded_words v told p q a b c d i e f may = subst (λ (z : Word × ℕ × ℕ)
 
 -- a word that isn't this link under the node's generation holds another link
 pub another_link : (k : Setup) (o : Origin) (l : LinkParts) (word : ℕ) → IsPackedLink word → own_in word ≡ generation_at k o → word ≢ link_word k o l → link_in word ≢ l
-another_link k o l word packed own other e = other (packed.packed ∙ (λ j. packed_link ((sym (own_in-packed_link packed.own packed.link packed.in_range) ∙ ap own_in (sym packed.packed) ∙ own) j) ((sym (link_in-packed_link packed.own packed.link packed.in_range) ∙ ap link_in (sym packed.packed) ∙ e) j)))
+another_link k o l word packed own other e = other (packed.packed
+    ∙ (λ j. packed_link ((sym (own_in-packed_link packed.own packed.link packed.in_range) ∙ ap own_in (sym packed.packed) ∙ own) j) ((sym (link_in-packed_link packed.own packed.link packed.in_range) ∙ ap link_in (sym packed.packed) ∙ e) j)))

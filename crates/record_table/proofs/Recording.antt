@@ -1,13 +1,12 @@
 -- What a step tells has it recorded as what it is.
-use Rattle.std.proofs.Common.{◌≡◌, ◌≢◌, ℕ, ◌+◌, ◌-◌, ◌*◌, ◌%◌, ◌^◌, ◌<◌, ◌≤◌, List, [], ◌∷◌, ◌++◌, get_or, Bool, true, false, cond, eqb, Option, Some, refl, sym, ap, ◌∙◌, subst, arith}
+use Rattle.std.proofs.Common.{◌≡◌, ◌≢◌, ℕ, ◌+◌, ◌-◌, ◌*◌, ◌%◌, ◌^◌, List, [], ◌∷◌, ◌++◌, get_or, Bool, true, false, cond, eqb, Option, Some, refl, sym, ap, ◌∙◌, subst, arith}
 use Rattle.std.proofs.lemmas.Bool.{eqb-true, eqb-false}
 use Rattle.set_model.specs.declared.calls.Call.{Call}
 use Rattle.set_model.specs.declared.calls.Update.{Update}
 use Rattle.record_memory.specs.declared.steps.Word.{Word}
 use Rattle.record_memory.specs.declared.steps.Word.TheVariants.{Drawn, Epoch, Lock, Blank, Shelf, Announced, Cursor, Field}
 use Rattle.record_memory.specs.declared.steps.StepKind.{StepKind}
-use Rattle.record_memory.specs.declared.steps.StepKind.TheVariants.{Load, Store, Swap, Add, Exchange}
-use Rattle.record_memory.specs.declared.steps.Step.{Step}
+use Rattle.record_memory.specs.declared.steps.StepKind.TheVariants.{Load, Store, Add, Exchange}
 use Rattle.record_memory.specs.declared.books.Setup.{Setup}
 use Rattle.record_memory.specs.declared.books.View.{View}
 use Rattle.record_memory.specs.declared.books.Book.{Book}
@@ -19,9 +18,8 @@ use Rattle.record_rule.specs.Kinds.{share_in, field_store, field_load, stored_as
 use Rattle.record_rule.specs.TakesFree.{LoadedFree}
 use Rattle.record_rule.specs.Placing.{placed_view}
 use Rattle.record_rule.specs.Asides.{put_aside_as, put_aside, took_spare_as, took_spare}
-use Rattle.record_rule.specs.Links.{Origin, from_root, from_place, index_of, node_step, LoadedKey, LoadedLink, ReachedLink, link_word, ExchangedLink, RefusedLink, ToldExchange, PublishedLink, ToldPublish, UnlinkedRecord, ToldUnlink, retired_with}
-use Rattle.record_rule.specs.ControlSteps.{seeing_if, own_store, StoredWord, StoredControl, MayStoreControl}
-use Rattle.record_table.specs.Handles.{IsSameView}
+use Rattle.record_rule.specs.Links.{Origin, from_place, index_of, node_step, LoadedKey, LoadedLink, ReachedLink, link_word, ExchangedLink, RefusedLink, ToldExchange, PublishedLink, ToldPublish, UnlinkedRecord, ToldUnlink}
+use Rattle.record_rule.specs.ControlSteps.{seeing_if, own_store, StoredControl, MayStoreControl}
 use Rattle.record_table.specs.Recording.{Adds}
 use Rattle.record_table.specs.ToldLinks.{ToldRetire}
 
@@ -49,13 +47,44 @@ module _ (s : ShapeFacts) (v : View) (o : Origin) (f : ℕ) (place : Word) (name
   adds_refused n w t = adds_by Exchange place n n v w _ t.view record { same = record { caller = refl; setup = refl; present = refl; others = refl }; step = node_step v Exchange o f n n; one = refl; kind_is = refl; word_is = sym name; found_is = refl; left_is = refl; idle_is = refl }
 
   adds_made : (old new : LinkParts) (call : Option Call) (n : ℕ) (w : View) → n ≡ link_word v.setup o old → ExchangedLink s v o f old new call w → Adds Exchange place n (link_word v.setup o new) v w
-  adds_made old new call n w e t = adds_by Exchange place n (link_word v.setup o new) v w _ t.view record { same = record { caller = refl; setup = refl; present = refl; others = refl }; step = node_step v Exchange o f (link_word v.setup o old) (link_word v.setup o new); one = refl; kind_is = refl; word_is = sym name; found_is = sym e; left_is = refl; idle_is = refl }
+  adds_made old new call n w e t = adds_by Exchange place n (link_word v.setup o new) v w _ t.view record {
+    same = record { caller = refl; setup = refl; present = refl; others = refl };
+    step = node_step v Exchange o f (link_word v.setup o old)
+        (link_word v.setup o new);
+    one = refl;
+    kind_is = refl;
+    word_is = sym name;
+    found_is = sym e;
+    left_is = refl;
+    idle_is = refl;
+  }
 
   adds_published : (old : LinkParts) (own : RefParts) (call : Option Call) (n : ℕ) (w : View) → n ≡ link_word v.setup o old → PublishedLink s v o f old own call w → Adds Exchange place n (link_word v.setup o (clean own)) v w
-  adds_published old own call n w e t = adds_by Exchange place n (link_word v.setup o (clean own)) v w _ t.view record { same = record { caller = refl; setup = refl; present = refl; others = refl }; step = node_step v Exchange o f (link_word v.setup o old) (link_word v.setup o (clean own)); one = refl; kind_is = refl; word_is = sym name; found_is = sym e; left_is = refl; idle_is = refl }
+  adds_published old own call n w e t = adds_by Exchange place n
+      (link_word v.setup o (clean own)) v w _ t.view record {
+        same = record { caller = refl; setup = refl; present = refl; others = refl };
+        step = node_step v Exchange o f (link_word v.setup o old)
+            (link_word v.setup o (clean own));
+        one = refl;
+        kind_is = refl;
+        word_is = sym name;
+        found_is = sym e;
+        left_is = refl;
+        idle_is = refl;
+      }
 
   adds_unlinked : (gone : RefParts) (new : LinkParts) (n : ℕ) (w : View) → n ≡ link_word v.setup o (clean gone) → UnlinkedRecord s v o f gone new w → Adds Exchange place n (link_word v.setup o new) v w
-  adds_unlinked gone new n w e t = adds_by Exchange place n (link_word v.setup o new) v w _ t.view record { same = record { caller = refl; setup = refl; present = refl; others = refl }; step = node_step v Exchange o f (link_word v.setup o (clean gone)) (link_word v.setup o new); one = refl; kind_is = refl; word_is = sym name; found_is = sym e; left_is = refl; idle_is = refl }
+  adds_unlinked gone new n w e t = adds_by Exchange place n (link_word v.setup o new) v w _ t.view record {
+    same = record { caller = refl; setup = refl; present = refl; others = refl };
+    step = node_step v Exchange o f (link_word v.setup o (clean gone))
+        (link_word v.setup o new);
+    one = refl;
+    kind_is = refl;
+    word_is = sym name;
+    found_is = sym e;
+    left_is = refl;
+    idle_is = refl;
+  }
 
   -- an exchange, by the key of the table
   abbrev Exchanges : Setup → LinkParts → LinkParts → ℕ → View → Type 0
@@ -65,14 +94,26 @@ module _ (s : ShapeFacts) (v : View) (o : Origin) (f : ℕ) (place : Word) (name
   adds_exchange setup same old new call n w t = subst (λ (k : Setup). Exchanges k old new n w) same (by_exchange n (link_word v.setup o old) (link_word v.setup o new) (λ left. Adds Exchange place n left v w) (λ e. adds_made old new call n w e (t.made e)) (λ ne. adds_refused n w (t.refused ne)))
 
   pub adds_publish : (setup : Setup) → v.setup ≡ setup → (old new : LinkParts) (own : RefParts) (call : Option Call) → new ≡ clean own → (n : ℕ) (w : View) → ToldPublish s v o f old own call n w → Exchanges setup old new n w
-  adds_publish setup same old new own call is n w t = subst (λ (z : Setup × LinkParts). Exchanges z.0 old z.1 n w) (λ k. (same k, sym is k)) (by_exchange n (link_word v.setup o old) (link_word v.setup o (clean own)) (λ left. Adds Exchange place n left v w) (λ e. adds_published old own call n w e (t.made e)) (λ ne. adds_refused n w (t.refused ne)))
+  adds_publish setup same old new own call is n w t = subst (λ (z : Setup × LinkParts). Exchanges z.0 old z.1 n w) (λ k. (same k, sym is k))
+      (by_exchange n (link_word v.setup o old) (link_word v.setup o (clean own)) (λ left. Adds Exchange place n left v w) (λ e. adds_published old own call n w e (t.made e)) (λ ne. adds_refused n w (t.refused ne)))
 
   pub adds_unlink : (setup : Setup) → v.setup ≡ setup → (old new : LinkParts) (gone : RefParts) → old ≡ clean gone → (n : ℕ) (w : View) → ToldUnlink s v o f gone new n w → Exchanges setup old new n w
-  adds_unlink setup same old new gone is n w t = subst (λ (z : Setup × LinkParts). Exchanges z.0 z.1 new n w) (λ k. (same k, sym is k)) (by_exchange n (link_word v.setup o (clean gone)) (link_word v.setup o new) (λ left. Adds Exchange place n left v w) (λ e. adds_unlinked gone new n w e (t.made e)) (λ ne. adds_refused n w (t.refused ne)))
+  adds_unlink setup same old new gone is n w t = subst (λ (z : Setup × LinkParts). Exchanges z.0 z.1 new n w) (λ k. (same k, sym is k))
+      (by_exchange n (link_word v.setup o (clean gone)) (link_word v.setup o new) (λ left. Adds Exchange place n left v w) (λ e. adds_unlinked gone new n w e (t.made e)) (λ ne. adds_refused n w (t.refused ne)))
 
 -- a load of a held record's key
 pub adds_key : (v : View) (p : ℕ) (place : Word) (r : RefParts) → place ≡ Field r.index 4 → (n : ℕ) (w : View) → LoadedKey v p r n w → Adds Load place n n v w
-adds_key v p place r name n w t = adds_by Load place n n v w _ t.view record { same = record { caller = refl; setup = refl; present = refl; others = refl }; step = node_step v Load (from_place p r) 4 n n; one = refl; kind_is = refl; word_is = sym name; found_is = refl; left_is = refl; idle_is = refl }
+adds_key v p place r name n w t = adds_by Load place n n v w _ t.view record {
+  same = record { caller = refl; setup = refl; present = refl; others = refl };
+  step = node_step v Load
+      (from_place p r) 4 n n;
+  one = refl;
+  kind_is = refl;
+  word_is = sym name;
+  found_is = refl;
+  left_is = refl;
+  idle_is = refl;
+}
 
 -- the owner's steps on word f of record i
 module _ (v : View) (i f : ℕ) (place : Word) (name : place ≡ Field i f) where
@@ -84,19 +125,31 @@ module _ (v : View) (i f : ℕ) (place : Word) (name : place ≡ Field i f) wher
     over n t = sym (subst (λ (x : Option Share). IsOverAs x f n) known t)
 
     pub adds_stored : (value n : ℕ) (w : View) → (w ≡ stored v i f value) × IsOver v i f n → Adds Store place n value v w
-    adds_stored value n w t = adds_by Store place n value v w _ (t.0 ∙ ap (stored_as v i f value) known) record { same = record { caller = refl; setup = refl; present = refl; others = refl }; step = field_store v i f value h; one = refl; kind_is = refl; word_is = sym name; found_is = over n t.1; left_is = refl; idle_is = refl }
+    adds_stored value n w t = adds_by Store place n value v w _ (t.0
+        ∙ ap (stored_as v i f value) known) record { same = record { caller = refl; setup = refl; present = refl; others = refl }; step = field_store v i f value h; one = refl; kind_is = refl; word_is = sym name; found_is = over n t.1; left_is = refl; idle_is = refl }
 
 -- and on its chain word
 module _ (v : View) (i : ℕ) (place : Word) (name : place ≡ Field i 1) (h : Share) (known : share_in v i ≡ Some h) where
   pub adds_aside : (value n : ℕ) (w : View) → (w ≡ put_aside v i value) × IsOver v i 1 n → Adds Store place n value v w
-  adds_aside value n w t = adds_by Store place n value v w _ (t.0 ∙ ap (put_aside_as v i value) known) record { same = record { caller = refl; setup = refl; present = refl; others = refl }; step = field_store v i 1 value h; one = refl; kind_is = refl; word_is = sym name; found_is = over v i 1 place name h known n t.1; left_is = refl; idle_is = refl }
+  adds_aside value n w t = adds_by Store place n value v w _ (t.0
+      ∙ ap (put_aside_as v i value) known) record { same = record { caller = refl; setup = refl; present = refl; others = refl }; step = field_store v i 1 value h; one = refl; kind_is = refl; word_is = sym name; found_is = over v i 1 place name h known n t.1; left_is = refl; idle_is = refl }
 
   pub adds_spare : (n : ℕ) (w : View) → (w ≡ took_spare v i n) × IsKnown v i 1 n → Adds Load place n n v w
   adds_spare n w t = adds_by Load place n n v w _ (t.0 ∙ ap (took_spare_as v i n) known) record { same = record { caller = refl; setup = refl; present = refl; others = refl }; step = field_load v i 1 n; one = refl; kind_is = refl; word_is = sym name; found_is = refl; left_is = refl; idle_is = refl }
 
 -- a free record is taken again
 pub adds_free : (v : View) (r : RefParts) (place : Word) → place ≡ Field r.index 1 → (n : ℕ) (w : View) → LoadedFree v r n w → Adds Load place n n v w
-adds_free v r place name n w t = adds_by Load place n n v w _ t.took.view record { same = record { caller = refl; setup = refl; present = refl; others = refl }; step = field_load v r.index 1 (get_or t.took.row 1 0); one = refl; kind_is = refl; word_is = sym name; found_is = sym t.found; left_is = sym t.found; idle_is = refl }
+adds_free v r place name n w t = adds_by Load place n n v w _ t.took.view record {
+  same = record { caller = refl; setup = refl; present = refl; others = refl };
+  step = field_load v r.index 1
+      (get_or t.took.row 1 0);
+  one = refl;
+  kind_is = refl;
+  word_is = sym name;
+  found_is = sym t.found;
+  left_is = sym t.found;
+  idle_is = refl;
+}
 
 -- retiring
 pub adds_retire : (v : View) (r : RefParts) (value : ℕ) (place : Word) → place ≡ Field r.index 2 → (n : ℕ) (w : View) → ToldRetire r value v n w → Adds Store place n value v w

@@ -33,6 +33,8 @@ impl<'a, S: Shape, R: Cover> ChainWords for Rows<'a, S, R> {
 
     ghost stores = { λ w r next x. view x.pass.now ≡ stored (view w.pass.now) r.index 1 (chain_word r.generation next) };
 
+    ghost looks = { λ w r f x. (n : ℕ) × IsKnown (view w.pass.now) r.index f n × (view x.pass.now ≡ loaded (view w.pass.now) r.index f n) };
+
     fn load_chain(&mut self, r: Ref) -> Option<Ref> {
         let found = self.table.load_field(self.pass, r.index, CHAIN);
         link_of(found).target
@@ -44,11 +46,13 @@ impl<'a, S: Shape, R: Cover> ChainWords for Rows<'a, S, R> {
     }
 
     fn load_birth(&mut self, r: Ref) -> u64 {
-        number_of(self.table.load_field(self.pass, r.index, BIRTH))
+        let found = self.table.load_field(self.pass, r.index, BIRTH);
+        number_of(found)
     }
 
     fn load_stamp(&mut self, r: Ref) -> u64 {
-        number_of(self.table.load_field(self.pass, r.index, STAMP))
+        let found = self.table.load_field(self.pass, r.index, STAMP);
+        number_of(found)
     }
 
     ghost same_start = { λ w. (refl, refl, same_start w.pass.now, still_start (view w.pass.now)) };

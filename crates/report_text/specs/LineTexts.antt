@@ -6,7 +6,7 @@ use Rattle.report_text.specs.declared.refusal.Refusal.{Refusal}
 use Rattle.report_text.specs.declared.refusal.Refusal.TheVariants.{Words, Workload, Pair, TooLong}
 use Rattle.report_text.specs.declared.refusal.WorkloadRefusal.{WorkloadRefusal}
 use Rattle.report_text.specs.declared.refusal.WorkloadRefusal.TheVariants.{Header, Callers, BadLine, KeyRange, NoEnd, TooManyCalls}
-use Rattle.report_text.specs.ReportText.{set_text, reclaimer_text}
+use Rattle.text_lines.specs.Names.{set_word, reclaimer_word}
 
 -- the number of phases, where the workload's text tells one
 abbrev pub phases_text : Option ℕ → List ℕ
@@ -33,7 +33,7 @@ reason_text (TooManyCalls number) = wrong_line number (codes "too many calls")
 abbrev pub cause_text : Refusal → List ℕ
 cause_text Words = codes "words refused"
 cause_text (Workload reason) = codes "workload refused: " ++ reason_text reason
-cause_text (Pair set reclaimer) = set_text set ++ codes " under " ++ reclaimer_text reclaimer ++ codes " is not lawful"
+cause_text (Pair set reclaimer) = set_word set ++ codes " under " ++ reclaimer_word reclaimer ++ codes " is not lawful"
 cause_text TooLong = codes "workload too long"
 
 -- the line of a refusal

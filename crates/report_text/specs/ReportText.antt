@@ -4,25 +4,11 @@ use Rattle.set_model.specs.declared.calls.Call.{Call}
 use Rattle.set_model.specs.declared.calls.Counts.{Counts}
 use Rattle.set_model.specs.declared.calls.Reply.{Reply}
 use Rattle.set_model.specs.declared.calls.Reply.TheVariants.{Yes, No, Full}
-use Rattle.set_model.specs.declared.names.SetName.{SetName}
-use Rattle.set_model.specs.declared.names.SetName.TheVariants.{Plain, Michael, Lazy}
-use Rattle.set_model.specs.declared.names.ReclaimerName.{ReclaimerName}
-use Rattle.set_model.specs.declared.names.ReclaimerName.TheVariants.{Nothing, Debra, Hazard, Ibr}
 use Rattle.text_lines.specs.Lines.{numbered, lines_text}
 use Rattle.text_lines.specs.Calls.{call_text}
+use Rattle.text_lines.specs.Names.{set_word, reclaimer_word}
 use Rattle.report_text.specs.declared.report.Played.{Played}
 use Rattle.report_text.specs.declared.report.Report.{Report}
-
-abbrev pub set_text : SetName → List ℕ
-set_text Plain = codes "plain"
-set_text Michael = codes "michael"
-set_text Lazy = codes "lazy"
-
-abbrev pub reclaimer_text : ReclaimerName → List ℕ
-reclaimer_text Nothing = codes "none"
-reclaimer_text Debra = codes "debra"
-reclaimer_text Hazard = codes "hazard"
-reclaimer_text Ibr = codes "2geibr"
 
 abbrev pub reply_text : Reply → List ℕ
 reply_text Yes = codes "yes"
@@ -37,10 +23,14 @@ named word text = word ++ 32 ∷ text
 abbrev pub calls_in : List Played → ℕ
 calls_in callers = sum_by (λ played. length played.calls) callers
 
--- the first line: the parts, the number of callers and the number of calls
+-- the number of callers and the number of calls
+abbrev pub sizes_text : List Played → List ℕ
+sizes_text callers = numbered (codes "callers") (length callers) ++ 32 ∷ numbered (codes "calls") (calls_in callers)
+
+-- the first line: the parts and the sizes
 abbrev pub head_text : Report → List ℕ
-head_text report = named (codes "set") (set_text report.set) ++ 32 ∷ named (codes "reclaimer") (reclaimer_text report.reclaimer)
-    ++ 32 ∷ numbered (codes "callers") (length report.callers) ++ 32 ∷ numbered (codes "calls") (calls_in report.callers)
+head_text report = named (codes "set") (set_word report.set) ++ 32 ∷ named (codes "reclaimer") (reclaimer_word report.reclaimer)
+    ++ 32 ∷ sizes_text report.callers
 
 -- a call and its reply
 abbrev pub answered_text : Call → Reply → List ℕ

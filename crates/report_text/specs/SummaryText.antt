@@ -1,5 +1,5 @@
 -- The text of a trial's summary.
-use Rattle.std.specs.Prelude.{ℕ, ◌+◌, List, [], ◌∷◌, ◌++◌, Bool, true, false, ◌&&◌, cond, length, sum_by, codes}
+use Rattle.std.specs.Prelude.{ℕ, ◌+◌, List, [], ◌∷◌, ◌++◌, Bool, true, false, ◌&&◌, cond, sum_by, codes}
 use Rattle.set_model.specs.declared.calls.Call.{Call}
 use Rattle.set_model.specs.declared.calls.Call.TheVariants.{Insert, Remove, Search}
 use Rattle.set_model.specs.declared.calls.Reply.{Reply}
@@ -9,7 +9,8 @@ use Rattle.report_text.specs.declared.report.Played.{Played}
 use Rattle.report_text.specs.declared.report.Report.{Report}
 use Rattle.report_text.specs.declared.summary_printing.Kind.{Kind}
 use Rattle.report_text.specs.declared.summary_printing.Kind.TheVariants.{Insertion, Removal, Lookup}
-use Rattle.report_text.specs.ReportText.{named, set_text, reclaimer_text, calls_in, size_text}
+use Rattle.text_lines.specs.Names.{set_word, reclaimer_word}
+use Rattle.report_text.specs.ReportText.{named, sizes_text, size_text}
 
 abbrev pub is_yes : Reply → Bool
 is_yes Yes = true
@@ -37,10 +38,9 @@ yes_among kind (call ∷ calls) (reply ∷ replies) = cond (is_of kind call && i
 abbrev pub yes_in : Kind → List Played → ℕ
 yes_in kind callers = sum_by (λ played. yes_among kind played.calls played.replies) callers
 
--- the first line: the parts, the number of callers and the number of calls
+-- the first line: the parts and the sizes
 abbrev pub trial_text : Report → List ℕ
-trial_text report = named (codes "trial") (set_text report.set) ++ 32 ∷ reclaimer_text report.reclaimer
-    ++ 32 ∷ numbered (codes "callers") (length report.callers) ++ 32 ∷ numbered (codes "calls") (calls_in report.callers)
+trial_text report = named (codes "trial") (set_word report.set) ++ 32 ∷ reclaimer_word report.reclaimer ++ 32 ∷ sizes_text report.callers
 
 -- the second line: how many insertions, removals and searches were answered yes
 abbrev pub tally_text : List Played → List ℕ

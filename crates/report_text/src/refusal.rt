@@ -4,9 +4,9 @@ ghost use Rattle.report_text.specs.LineTexts.{wrong_line, reason_text, cause_tex
 ghost use Rattle.report_text.specs.Printing.{Adds};
 
 use crate::printer::Printer;
-use crate::report_printing::{reclaimer_word, set_word};
 use outside::Sink;
 use set_model::{ReclaimerName, SetName};
+use text_lines::{reclaimer_word, set_word};
 
 /// Why bytes are no workload's text. A line is told by its number, from 1.
 #[derive(Clone, Copy, Debug, PartialEq, Eq)]

@@ -1,41 +1,19 @@
 // Printing a report, line by line.
-ghost use Rattle.std.specs.Prelude.{◌≡◌, ◌++◌, ◌∷◌, length, decimal};
+ghost use Rattle.std.specs.Prelude.{◌≡◌, ◌≤◌, ◌∷◌, length};
 ghost use Rattle.text_lines.specs.Lines.{line, numbered, lines_text};
-ghost use Rattle.text_lines.specs.Calls.{call_text};
 ghost use Rattle.report_text.specs.Printing.{Adds};
-ghost use Rattle.report_text.specs.ReportText.{calls_in, reply_text, answered_text, answered_lines, set_text, reclaimer_text, size_text, records_text, played_lines, callers_lines, head_text, report_text};
+ghost use Rattle.report_text.specs.ReportText.{calls_in, reply_text, answered_text, answered_lines, size_text, records_text, played_lines, callers_lines, head_text, sizes_text, report_text};
 
 use crate::printer::Printer;
 use crate::report::{Played, Report};
 use outside::Sink;
-use set_model::{Call, Counts, ReclaimerName, Reply, SetName};
-
-/// The name of a set, as words and texts spell it.
-pub fn set_word(set: SetName) -> &'static [u8]
-    ensures { result.now ≡ set_text set }
-{
-    match set {
-        SetName::Plain => b"plain",
-        SetName::Michael => b"michael",
-        SetName::Lazy => b"lazy",
-    }
-}
-
-/// The name of a reclaimer, as words and texts spell it.
-pub fn reclaimer_word(reclaimer: ReclaimerName) -> &'static [u8]
-    ensures { result.now ≡ reclaimer_text reclaimer }
-{
-    match reclaimer {
-        ReclaimerName::Nothing => b"none",
-        ReclaimerName::Debra => b"debra",
-        ReclaimerName::Hazard => b"hazard",
-        ReclaimerName::Ibr => b"2geibr",
-    }
-}
+use set_model::{Call, Counts, Reply};
+use text_lines::{reclaimer_word, set_word, write_call};
 
 // What stands behind a call, up to the end of the line, in one piece.
 fn reply_end(reply: Reply) -> &'static [u8]
-    ensures { result.now ≡ 32 ∷ line (reply_text reply) }
+    ensures text { result.now ≡ 32 ∷ line (reply_text reply) }
+    ensures short { length result.now ≤ 8 }
 {
     match reply {
         Reply::Yes => b" yes\n",
@@ -54,28 +32,11 @@ impl<'a, K: Sink> Printer<'a, K> {
         self.number(number);
     }
 
-    fn call(&mut self, call: Call)
-        ensures { Adds K.got K.faults self.old self.new (call_text call) }
-    {
-        match call {
-            Call::Insert(key) => self.keyed(b"i ", key),
-            Call::Remove(key) => self.keyed(b"r ", key),
-            Call::Search(key) => self.keyed(b"s ", key),
-        }
-    }
-
-    fn keyed(&mut self, letter: &[u8], key: u64)
-        ensures { Adds K.got K.faults self.old self.new (letter.now ++ decimal key) }
-    {
-        self.text(letter);
-        self.number(key);
-    }
-
     fn answered(&mut self, call: Call, reply: Reply)
         ensures { Adds K.got K.faults self.old self.new (line (answered_text call reply)) }
     {
-        self.call(call);
-        self.text(reply_end(reply));
+        let mut buffer = [0; 32];
+        self.text(write_call(call, reply_end(reply), &mut buffer));
     }
 
     fn answers(&mut self, calls: &[Call], replies: &[Reply])
@@ -113,18 +74,24 @@ impl<'a, K: Sink> Printer<'a, K> {
         self.text(b"\n");
     }
 
+    /// Prints how many callers there are, and how many calls.
+    pub fn sizes(&mut self, callers: &[Played])
+        ensures { Adds K.got K.faults self.old self.new (sizes_text callers.now) }
+    {
+        self.numbered(b"callers", callers.len() as u64);
+        self.text(b" calls ");
+        self.wide_number(calls_in(callers));
+    }
+
     fn head(&mut self, report: &Report)
         ensures { Adds K.got K.faults self.old self.new (line (head_text report.now)) }
     {
-        let callers = report.callers.as_slice();
         self.text(b"set ");
         self.text(set_word(report.set));
         self.text(b" reclaimer ");
         self.text(reclaimer_word(report.reclaimer));
         self.text(b" ");
-        self.numbered(b"callers", callers.len() as u64);
-        self.text(b" calls ");
-        self.wide_number(calls_in(callers));
+        self.sizes(report.callers.as_slice());
         self.text(b"\n");
     }
 
@@ -154,7 +121,7 @@ impl<'a, K: Sink> Printer<'a, K> {
 }
 
 /// How many calls the callers played, all together.
-pub fn calls_in(callers: &[Played]) -> u128
+fn calls_in(callers: &[Played]) -> u128
     ensures { result ≡ calls_in callers.now }
 {
     let mut total = 0;

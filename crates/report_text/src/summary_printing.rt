@@ -6,9 +6,9 @@ ghost use Rattle.report_text.specs.SummaryText.{is_yes, is_of, yes_among, yes_in
 
 use crate::printer::Printer;
 use crate::report::{Played, Report};
-use crate::report_printing::{calls_in, reclaimer_word, set_word};
 use outside::Sink;
 use set_model::{Call, Reply};
+use text_lines::{reclaimer_word, set_word};
 
 /// A kind of call.
 #[derive(Clone, Copy)]
@@ -67,15 +67,12 @@ impl<'a, K: Sink> Printer<'a, K> {
     fn trial(&mut self, report: &Report)
         ensures { Adds K.got K.faults self.old self.new (line (trial_text report.now)) }
     {
-        let callers = report.callers.as_slice();
         self.text(b"trial ");
         self.text(set_word(report.set));
         self.text(b" ");
         self.text(reclaimer_word(report.reclaimer));
         self.text(b" ");
-        self.numbered(b"callers", callers.len() as u64);
-        self.text(b" calls ");
-        self.wide_number(calls_in(callers));
+        self.sizes(report.callers.as_slice());
         self.text(b"\n");
     }
 

@@ -1,5 +1,5 @@
 // The words of rows that chains need, as a caller sees them.
-ghost use Rattle.std.specs.Prelude.{◌≡◌, ◌≢◌, Option};
+ghost use Rattle.std.specs.Prelude.{◌≡◌, ◌≢◌, ℕ, Option};
 ghost use Rattle.row_words.specs.Refs.{RefParts};
 ghost use Rattle.row_words.specs.Rows.{Row, with_next};
 
@@ -22,6 +22,9 @@ pub trait ChainWords {
     ghost loads: { Self → RefParts → Self → Type 0 };
 
     ghost stores: { Self → RefParts → Option RefParts → Self → Type 0 };
+
+    // What one load of another word of the record's row leaves: word 0 is its birth, word 2 its stamp.
+    ghost looks: { Self → RefParts → ℕ → Self → Type 0 };
 
     /// The record that comes after `r` in its chain.
     fn load_chain(&mut self, r: Ref) -> Option<Ref>
@@ -47,6 +50,7 @@ pub trait ChainWords {
         ensures birth { result ≡ (row_of self.old r).birth }
         ensures rows { (q : RefParts) → row_of self.new q ≡ row_of self.old q }
         ensures owned { (q : RefParts) → owns self.old q → owns self.new q }
+        ensures made { looks self.old r 0 self.new }
         ensures same { same self.old self.new };
 
     /// The stamp that the record was retired with.
@@ -55,6 +59,7 @@ pub trait ChainWords {
         ensures stamp { result ≡ (row_of self.old r).stamp }
         ensures rows { (q : RefParts) → row_of self.new q ≡ row_of self.old q }
         ensures owned { (q : RefParts) → owns self.old q → owns self.new q }
+        ensures made { looks self.old r 2 self.new }
         ensures same { same self.old self.new };
 
     // Making no call changes nothing, and what two calls keep stays over both.

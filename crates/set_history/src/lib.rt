@@ -6,5 +6,7 @@
 #![tactic(auto)]
 
 mod meeting;
+mod placing;
 
 pub use meeting::meet;
+pub use placing::place;

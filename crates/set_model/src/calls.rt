@@ -36,6 +36,38 @@ impl From<bool> for Reply {
     }
 }
 
+/// What an insertion into a concurrent set answers.
+#[derive(Clone, Copy, Debug, PartialEq, Eq)]
+pub enum InsertAnswer {
+    /// The key was added, or it was there already.
+    Done(bool),
+    /// The key was absent, and no record was left for it: the one draw of this call found this. Nothing
+    /// changed.
+    Full {
+        /// The value of the word that shows it.
+        found: u64,
+    },
+    /// The call needs a further hop and has made as many as its budget allows. Nothing changed, and the
+    /// call may be made again.
+    Again {
+        /// How many hops it made: its budget.
+        hops: u32,
+    },
+}
+
+/// What a removal from a concurrent set or a search in it answers.
+#[derive(Clone, Copy, Debug, PartialEq, Eq)]
+pub enum LookAnswer {
+    /// A removal took the key away, a search found it; or it did not.
+    Done(bool),
+    /// The call needs a further hop and has made as many as its budget allows. Nothing changed, and the
+    /// call may be made again.
+    Again {
+        /// How many hops it made: its budget.
+        hops: u32,
+    },
+}
+
 /// A call that took effect, as contracts list it.
 #[derive(Clone, Copy, Debug, PartialEq, Eq)]
 pub struct Update {

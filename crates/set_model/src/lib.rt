@@ -12,7 +12,7 @@ mod runs;
 #[cfg(test)]
 mod tests;
 
-pub use calls::{Call, Counts, OutOfMemory, Reply, Update};
+pub use calls::{Call, Counts, InsertAnswer, LookAnswer, OutOfMemory, Reply, Update};
 pub use names::{AllocatorName, ReclaimerName, SetName};
 pub use plain_set::PlainSet;
 pub use runs::{legal_run, updates_take_turns};

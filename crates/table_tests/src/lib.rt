@@ -1,7 +1,7 @@
 //! Tests of the table together with the crates above it: drawing and setting aside, chains through
 //! its rows, a list by steps on its nodes, callers in several threads, meetings and pools. What they share
 //! stands in `types` and `closing`, for measurements, too; `first_look` shows what a first load lets its
-//! caller place, and `looks` loads words that nobody may change.
+//! caller place, `looks` loads words that nobody may change, and `sets` says what no set can be.
 #![tactic(auto)]
 
 #[cfg(test)]
@@ -9,11 +9,13 @@ mod chains;
 mod closing;
 mod first_look;
 mod looks;
+mod sets;
 mod types;
 
 pub use closing::{close_lists, take_last};
 pub use first_look::look_first;
 pub use looks::{look_at_cursor, look_at_drawn, look_at_shelf};
+pub use sets::no_set_ties_nothing;
 pub use types::{ListPass, ListTable, MichaelShape};
 
 #[cfg(test)]

@@ -58,6 +58,8 @@ fn takes_a_spare_record_first(rt: HostRuntime) -> Result<(), Fail> {
     // The record that was given back is taken again, at its generation, and no second one is drawn.
     assert_eq!(rt; drawn, Ok(Ref::new(2, first)));
     assert_eq!(rt; again, Ok(Ref::new(2, first)));
+    let counts = manager.counts(&caller);
+    assert_eq!(rt; (counts.drawn, counts.spare, counts.free), (1, 1, 0));
     Ok(())
 }
 

@@ -1,4 +1,5 @@
 use super::*;
+use set_model::Call;
 use std::test::*;
 
 #[test]
@@ -33,4 +34,28 @@ fn the_greatest_numbers(rt: HostRuntime) {
     assert_eq!(rt; read_number(greatest, u64::MAX - 1), Number::TooLarge);
     let above = b"18446744073709551616";
     assert_eq!(rt; read_number(above, u64::MAX), Number::TooLarge);
+}
+
+#[test]
+fn calls_of_all_kinds(rt: HostRuntime) {
+    let rows = [
+        (Call::Insert(0), b"".as_slice(), b"i 0".as_slice()),
+        (Call::Remove(10), b"\n".as_slice(), b"r 10\n".as_slice()),
+        (
+            Call::Search(1_099_511_627_773),
+            b" yes\n".as_slice(),
+            b"s 1099511627773 yes\n".as_slice(),
+        ),
+        (
+            Call::Insert(u64::MAX),
+            b"12345678".as_slice(),
+            b"i 1844674407370955161512345678".as_slice(),
+        ),
+    ];
+    for (call, end, text) in rows {
+        // What another call left in the buffer has no effect.
+        let mut buffer = [b'x'; 32];
+        assert!(rt; end.len() <= 8);
+        assert_eq!(rt; write_call(call, end, &mut buffer), text);
+    }
 }

@@ -22,7 +22,7 @@ key_of-cond true c key = refl
 key_of-cond false true key = refl
 key_of-cond false false key = refl
 
-key_of-call_by : (word key : ℕ) → key_of (call_by word key) ≡ key
+pub key_of-call_by : (word key : ℕ) → key_of (call_by word key) ≡ key
 key_of-call_by word key = key_of-cond (word % 4 == 0 || word % 4 == 1) (word % 4 == 2) key
 
 cond-le : (b : Bool) (x y most : ℕ) → x ≤ most → y ≤ most → cond b x y ≤ most
@@ -64,7 +64,7 @@ lawful-callers_from plan first zero within = tt
 lawful-callers_from plan first (suc count) within =
     ((calls_lawful plan first plan.calls _ (omega (arith, within)), tt), lawful-callers_from plan (first + 1) count (omega (arith, within)))
 
-no_phase_lines : (lists : List (List Call)) → phase_lines (one_phase lists) ≡ 0
+pub no_phase_lines : (lists : List (List Call)) → phase_lines (one_phase lists) ≡ 0
 no_phase_lines [] = refl
 no_phase_lines (calls ∷ lists) = refl
 

@@ -9,6 +9,7 @@ use crate::workload::Workload;
 use itoa::Buffer;
 use set_model::{Call, OutOfMemory};
 use std::alloc::Global;
+use text_lines::write_call;
 
 /// The most bytes of a call's line: its letter, a blank, 13 digits and a line feed.
 const CALL_BYTES: usize = 16;
@@ -24,26 +25,13 @@ fn write_numbered(out: &mut Vec<u8>, word: &[u8], number: u64) -> Result<(), Out
     Ok(())
 }
 
-/// Writes the line of a call, of its letter and a blank, and its key.
-fn write_call(out: &mut Vec<u8>, letter: &[u8], key: u64) -> Result<(), OutOfMemory>
-    ensures { IfOk result (λ _. out.new.items ≡ out.old.items ++ line (letter.now ++ decimal key)) }
-{
-    out.extend_from_slice(letter)?;
-    out.extend_from_slice(Buffer::new().format(key).as_bytes())?;
-    out.push(b'\n')?;
-    Ok(())
-}
-
 /// Writes the lines of calls.
 fn write_calls(out: &mut Vec<u8>, calls: &[Call]) -> Result<(), OutOfMemory>
     ensures { IfOk result (λ _. out.new.items ≡ out.old.items ++ spelled_lines (map call_line calls.now)) }
 {
+    let mut buffer = [0; 32];
     for call in calls {
-        match *call {
-            Call::Insert(key) => write_call(out, b"i ", key)?,
-            Call::Remove(key) => write_call(out, b"r ", key)?,
-            Call::Search(key) => write_call(out, b"s ", key)?,
-        }
+        out.extend_from_slice(write_call(*call, b"\n", &mut buffer))?;
     }
     Ok(())
 }

@@ -8,7 +8,8 @@ returns-in-Generated g c =
     let end = c.end_after-in-Generated.ensures in
     rw c.in-Generated.is (record {
       run = end.run;
-      tells = Tells-printed g.K.Sink.got g.K.Sink.faults _ _ _ _ _ printed.result (rw c.in-Generated.is at c.requires) (λ same. omega (arith, same)) (rw c.as_slice.ensures at printed.ensures.done) (rw c.as_slice.ensures at printed.ensures.part) printed.ensures.kept printed.ensures.counted end.done end.write_fault;
+      tells = Tells-printed g.K.Sink.got g.K.Sink.faults _ _ _ _ _ printed.result (rw c.in-Generated.is at c.requires) (λ same. omega (arith, same))
+          (rw c.as_slice.ensures at printed.ensures.done) (rw c.as_slice.ensures at printed.ensures.part) printed.ensures.kept printed.ensures.counted end.done end.write_fault;
     })
 
 pub returns-in-Played : goal.returns-in-Played

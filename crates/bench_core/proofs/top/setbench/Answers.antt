@@ -72,3 +72,6 @@ returns-clause-no_write_fault g c = ending.no_write_fault c.end_of.ensures
 
 pub returns-clause-complete : goal.returns-clause-complete
 returns-clause-complete g c = ending.complete c.end_of.ensures
+
+pub returns-clause-alone : goal.returns-clause-alone
+returns-clause-alone g c = ending.alone c.end_of.ensures

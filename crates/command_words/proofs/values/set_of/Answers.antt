@@ -1,5 +1,6 @@
 use Rattle.std.proofs.Common.{codes}
-use Rattle.command_words.specs.Words.{set_word, texts_of}
+use Rattle.text_lines.specs.Names.{set_word}
+use Rattle.command_words.specs.Words.{texts_of}
 use Rattle.command_words.proofs.Pairs.{Gives-read}
 use Rattle.command_words.proofs.values.set_of.Goals as goal
 

@@ -26,4 +26,5 @@ returns-clause-did g c = let k = setup_of c.args.table.now in let h = c.hand_out
 
 pub returns-clause-keeps : goal.returns-clause-keeps
 returns-clause-keeps g c = let m = c.take_next.ensures.made in
-    subst (λ x. KeepsHeld x.pass c.hand_out.new.caller.pass) c.in_default.ensures.none.0 (held_then c.take_spare.new.caller.pass c.take_next.new.caller.pass c.hand_out.new.caller.pass (keeps_after c.take_spare.new.caller.pass c.take_next.new.caller.pass c.take_next.ensures.pass m.0 m.1) c.hand_out.ensures.keeps)
+    subst (λ x. KeepsHeld x.pass c.hand_out.new.caller.pass) c.in_default.ensures.none.0 (held_then c.take_spare.new.caller.pass c.take_next.new.caller.pass c.hand_out.new.caller.pass
+    (keeps_after c.take_spare.new.caller.pass c.take_next.new.caller.pass c.take_next.ensures.pass m.0 m.1) c.hand_out.ensures.keeps)

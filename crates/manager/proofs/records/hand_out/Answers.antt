@@ -1,4 +1,4 @@
-use Rattle.std.proofs.Common.{ap, sym, subst, ◌∙◌, List}
+use Rattle.std.proofs.Common.{get_or, None, ap, sym, subst, ◌∙◌, List}
 use Rattle.record_memory.specs.declared.books.View.{View}
 use Rattle.record_memory.specs.declared.books.Setup.{Setup}
 use Rattle.record_memory.specs.declared.steps.Step.{Step}
@@ -10,7 +10,9 @@ use Rattle.record_rule.proofs.Makes.{handed_makes, handed_idle}
 use Rattle.record_rule.specs.HandingOut.{HasDrawn}
 use Rattle.reclaim_api.proofs.Kept.{chain_stays}
 use Rattle.manager.proofs.Stay.{chains_stay, inside_after, keeps_after, chains_after, answers_after}
-use Rattle.manager.proofs.Handed.{still_drawn, handed_limbo, handed_stay}
+use Rattle.manager.proofs.Handed.{still_drawn, handed_limbo, handed_moves, handed_stay}
+use Rattle.reclaim_api.specs.Frames.{in_away}
+use Rattle.manager.proofs.MoveCounts.{same_moves, counted_still}
 use Rattle.reclaim_api.proofs.Keeping.{held_then}
 use Rattle.manager.proofs.Owns.{owns_mine, owns_stay}
 use Rattle.manager.proofs.records.hand_out.Goals as goal
@@ -35,6 +37,7 @@ returns-clause-caller g c = let a = c.args.caller.now in let b = c.birth-birth.e
           (chain_stays Free v w records (handed_stay v w r n d e.steps Free tt) a.free mid.frees)
           (chain_stays Spare v w records (handed_stay v w r n d e.steps Spare tt) a.spare mid.spares)
           (ap (λ (x : View). idle x.own) e.steps ∙ handed_idle v r n d ∙ mid.all);
+      counts = counted_still v w a.moved (handed_limbo v w r n d e.steps) (handed_moves v w r n d e.steps) (counted_still (view a.pass) v a.moved (λ i. ap (λ l. in_away (get_or l i None)) b.rest.mine) (same_moves _ _ b.rest.moves) h.counts);
     }
 
 pub returns-clause-keeps : goal.returns-clause-keeps

@@ -4,7 +4,8 @@ use Rattle.row_words.specs.Refs.{RefParts, IsRef}
 use Rattle.row_words.specs.declared.links.Chain.{Chain}
 use Rattle.record_table.specs.Handles.{view}
 use Rattle.manager.proofs.Stay.{inside_after, chains_after}
-use Rattle.manager.proofs.Spares.{room_for, pushed_makes, pushed_limbo, pushed_free, pushed_owns, pushed_list}
+use Rattle.manager.proofs.MoveCounts.{same_moves, counted_still}
+use Rattle.manager.proofs.Spares.{room_for, pushed_makes, pushed_limbo, pushed_moves, pushed_free, pushed_owns, pushed_list}
 use Rattle.manager.proofs.records.set_spare.Goals as goal
 
 pub overflow_add-caller : goal.overflow_add-caller
@@ -20,6 +21,7 @@ returns-clause-caller g c = let a = c.args.caller.now in let q = c.set_aside-r.n
           (pushed_free v w a.spare after c.args.own row list own ref e.step head refl a.free h.chains.frees)
           (pushed_list v w a.spare after c.args.own row list own ref e.step head refl)
           (let i = e.idle in let all = h.chains.all in omega arith);
+      counts = counted_still v w a.moved (pushed_limbo v w a.spare after c.args.own row list own ref e.step head refl) (same_moves v.own.moves w.own.moves (pushed_moves v w a.spare after c.args.own row list own ref e.step head refl)) h.counts;
     }
 
 pub returns-clause-made : goal.returns-clause-made

@@ -1,4 +1,6 @@
-use Rattle.std.proofs.Common.{◌-◌, ℕ, [], ◌∷◌, refl, sym, subst, get_or, arith}
+use Rattle.std.proofs.Common.{◌-◌, ℕ, [], ◌∷◌, refl, sym, ap, ◌∙◌, subst, get_or, arith}
+use Rattle.manager.specs.Counted.{shown}
+use Rattle.manager.proofs.MoveCounts.{spent_still, limbo_still}
 use Rattle.record_memory.specs.declared.books.View.{View}
 use Rattle.record_memory.specs.declared.books.Standing.TheVariants.{Free}
 use Rattle.row_words.specs.declared.links.Chain.{Chain}
@@ -7,7 +9,7 @@ use Rattle.record_rule.specs.Makes.{Makes}
 use Rattle.record_table.specs.Handles.{view}
 use Rattle.manager.proofs.Stay.{inside_after, chains_after}
 use Rattle.manager.proofs.Pops.{pop_count}
-use Rattle.manager.proofs.Takings.{first_free, again_makes, again_limbo, again_spare, again_owns, again_rest}
+use Rattle.manager.proofs.Takings.{first_free, again_makes, again_away, again_spare, again_owns, again_rest}
 use Rattle.manager.proofs.records.take_free.Goals as goal
 
 pub take_free-r-requires-clause-free : goal.take_free-r-requires-clause-free
@@ -19,10 +21,18 @@ returns-clause-caller g c = let a = c.args.caller.now in let q = c.take_free-r.n
     let after : Chain = record { head = c.take_free-r.result.1; count = a.free.count - 1 } in
     let made = again_makes v w a.free after r list head e.step e.next refl in record {
       inside = inside_after a.pass q e.pass _ made h.inside;
-      chains = chains_after a.pass q e.pass _ made _ a.local a.free a.spare after a.spare g.met.R.Scheme.local_stays h.chains (again_limbo v w a.free after r list head e.step e.next refl)
+      chains = chains_after a.pass q e.pass _ made _ a.local a.free a.spare after a.spare g.met.R.Scheme.local_stays h.chains (again_away v w a.free after r list head e.step e.next refl)
           (again_rest v w a.free after r list head e.step e.next refl)
           (again_spare v w a.free after r list head e.step e.next refl a.spare h.chains.spares)
           (let i = e.idle in let all = h.chains.all in let some = pop_count Free v w a.free after r list head in omega arith);
+      counts = let n = h.counts in let away = again_away v w a.free after r list head e.step e.next refl in record {
+        drawn = n.drawn ∙ ap (λ (x : View). shown x.own.moves.drawn) (sym e.step.view);
+        reused = c.raised-caller.ensures _ n.reused ∙ ap (λ (x : View). shown x.own.moves.reused) (sym e.step.view);
+        retired = n.retired ∙ ap (λ (x : View). shown x.own.moves.retired) (sym e.step.view);
+        freed = n.freed ∙ ap (λ (x : View). shown x.own.moves.freed) (sym e.step.view);
+        spent = spent_still v w a.moved away n;
+        limbo = limbo_still v w a.moved away (sym (ap (λ (x : View). x.own.moves.retired) e.step.view)) (sym (ap (λ (x : View). x.own.moves.freed) e.step.view)) n.limbo;
+      };
     }
 
 pub returns-clause-made : goal.returns-clause-made

@@ -8,7 +8,8 @@ use Rattle.record_table.specs.Handles.{view}
 use Rattle.record_pieces.specs.Events.{own_load}
 use Rattle.manager.proofs.Stay.{inside_after, chains_after}
 use Rattle.manager.proofs.Pops.{row_next, pop_count}
-use Rattle.manager.proofs.Takings.{spare_as, first_spare, taken_makes, taken_limbo, taken_free, taken_owns, taken_rest}
+use Rattle.manager.proofs.MoveCounts.{counted_still}
+use Rattle.manager.proofs.Takings.{spare_as, first_spare, taken_makes, taken_limbo, taken_moves, taken_free, taken_owns, taken_rest}
 use Rattle.record_memory.specs.declared.books.Standing.TheVariants.{Spare}
 use Rattle.manager.proofs.records.take_spare.Goals as goal
 
@@ -27,6 +28,7 @@ returns-clause-caller g c = let a = c.args.caller.now in let q = c.take_spare-ow
           (taken_free v w a.spare after r list head n step next refl a.free h.chains.frees)
           (taken_rest v w a.spare after r list head n step next refl)
           (let i = e.idle in let all = h.chains.all in let some = pop_count Spare v w a.spare after r list head in omega arith);
+      counts = counted_still v w a.moved (taken_limbo v w a.spare after r list head n step next refl) (taken_moves v w a.spare after r list head n step next refl) h.counts;
     }
 
 pub returns-clause-made : goal.returns-clause-made

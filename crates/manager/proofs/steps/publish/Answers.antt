@@ -1,6 +1,6 @@
 use Rattle.record_table.specs.Handles.{view}
 use Rattle.record_table.specs.Nodes.{origin}
-use Rattle.manager.proofs.NodeSteps.{LeavesAll, inside_still, chains_still, publish_leaves}
+use Rattle.manager.proofs.NodeSteps.{LeavesAll, inside_still, chains_still, counts_left, publish_leaves}
 use Rattle.manager.proofs.StepKeeps.{publish_keeps, publish_answers, publish_owns}
 use Rattle.manager.proofs.steps.publish.Goals as goal
 
@@ -12,6 +12,7 @@ pub returns-clause-caller : goal.returns-clause-caller
 returns-clause-caller g c = let a = c.args.caller.now in let q = c.publish.new.pass in let same = c.publish.ensures.pass in let l = leaves g c in record {
   inside = inside_still g.R.Scheme.is_local a.pass q same a.local a.free a.spare g.met.R.Scheme.local_stays l c.requires.caller.inside;
   chains = chains_still g.R.Scheme.is_local a.pass q same a.local a.free a.spare g.met.R.Scheme.local_stays l c.requires.caller.chains;
+  counts = counts_left g.R.Cover.facts _ _ a.moved l c.requires.caller.counts;
 }
 
 pub returns-clause-keeps : goal.returns-clause-keeps

@@ -1,5 +1,5 @@
 use Rattle.record_table.specs.Handles.{view}
-use Rattle.manager.proofs.NodeSteps.{LeavesAll, inside_still, chains_still, store_leaves}
+use Rattle.manager.proofs.NodeSteps.{LeavesAll, inside_still, chains_still, counts_left, store_leaves}
 use Rattle.std.proofs.Common.{ap, ◌∙◌}
 use Rattle.record_memory.specs.declared.books.View.{View}
 use Rattle.record_rule.specs.Kinds.{stored_as}
@@ -16,6 +16,7 @@ pub returns-clause-caller : goal.returns-clause-caller
 returns-clause-caller g c = let a = c.args.caller.now in let q = c.store_own.new.pass in let same = c.store_own.ensures.pass in let l = leaves g c in record {
   inside = inside_still g.R.Scheme.is_local a.pass q same a.local a.free a.spare g.met.R.Scheme.local_stays l c.requires.caller.inside;
   chains = chains_still g.R.Scheme.is_local a.pass q same a.local a.free a.spare g.met.R.Scheme.local_stays l c.requires.caller.chains;
+  counts = counts_left g.R.Cover.facts _ _ a.moved l c.requires.caller.counts;
 }
 
 pub returns-clause-keeps : goal.returns-clause-keeps

@@ -22,4 +22,5 @@ returns-clause-key c = let k = c.load_key-key.ensures in let l = c.load_link-lin
 
 pub returns-clause-mark : goal.returns-clause-mark
 returns-clause-mark c mark = let k = c.load_key-key.ensures in let l = c.load_link-link.ensures in
-    subst (HasMark (view c.load_link-link.new.pass)) (sym l.step.1) (mark_loaded c.load_key-key.new.pass c.load_link-link.new.pass c.args.target l.pass (after_key c.args.pass.now c.load_key-key.new.pass c.args.target k.pass c.requires.held k.step.0 k.step.2) l.step.0 l.step.2 (ap (λ (x : LinkParts). x.flags) (sym l.step.1) ∙ mark))
+    subst (HasMark (view c.load_link-link.new.pass)) (sym l.step.1)
+    (mark_loaded c.load_key-key.new.pass c.load_link-link.new.pass c.args.target l.pass (after_key c.args.pass.now c.load_key-key.new.pass c.args.target k.pass c.requires.held k.step.0 k.step.2) l.step.0 l.step.2 (ap (λ (x : LinkParts). x.flags) (sym l.step.1) ∙ mark))

@@ -8,4 +8,5 @@ pub returns-clause-did : goal.returns-clause-did
 returns-clause-did g c = let e = c.unlink.ensures in unlink_does g.S.Shape.facts _ _ _ (sym e.pass.setup ∙ e.of.setup) c.args.node c.args.gone.target c.args.new c.unlink.result e.step
 
 pub returns-clause-taken : goal.returns-clause-taken
-returns-clause-taken g c = let e = c.unlink.ensures in taken_ok g.S.Shape.facts _ _ (origin c.args.node) c.args.gone.target c.args.new (let k = c.args.self.now.manager.now.table.numbers in let f = ap (λ (x : Setup). x.records) (sym e.pass.setup ∙ e.of.setup) in let a = k.roots in let b = k.rooted in omega arith) c.unlink.result e.step
+returns-clause-taken g c = let e = c.unlink.ensures in
+    taken_ok g.S.Shape.facts _ _ (origin c.args.node) c.args.gone.target c.args.new (let k = c.args.self.now.manager.now.table.numbers in let f = ap (λ (x : Setup). x.records) (sym e.pass.setup ∙ e.of.setup) in let a = k.roots in let b = k.rooted in omega arith) c.unlink.result e.step

@@ -6,6 +6,7 @@ use Rattle.record_table.specs.Closing.{IsWholePassOf}
 use Rattle.record_table.proofs.Closings.{All-reverse, first_all, more_all, last_all}
 use Rattle.manager.specs.Made.{pass_of, passes_of}
 use Rattle.manager.proofs.Seats.{passes_reversed, popped_passes, no_callers}
+use Rattle.manager.proofs.Sums.{moves_add_up}
 use Rattle.manager.proofs.types.Manager.close.Goals as goal
 
 pub unreachable-requires : goal.unreachable-requires
@@ -35,3 +36,6 @@ loop-caller-preserved g c = let t = c.args.self.table in let xs = c.loop-caller.
 pub close_last-requires-clause-all : goal.close_last-requires-clause-all
 close_last-requires-clause-all g c = last_all c.args.self.table _ (passes_of c.args.callers.items) (passes_of c.loop-caller.callers.items) _
     (let e = c.in_default-pop.ensures.cases.0 in let l = c.loop-caller.callers.ok.0 in let m = length-map c.loop-caller.callers.items pass_of in omega arith) c.loop-caller.invariant.all c.requires.order
+
+pub returns-clause-moves : goal.returns-clause-moves
+returns-clause-moves g c = let f = c.close_last.ensures.fits in record { records = f.records; placed = f.placed; sums = moves_add_up _ f.records _ _ f.placed f.moved }

@@ -9,7 +9,11 @@ use Rattle.record_table.proofs.rows.RowsChainWords.store_chain.Goals as goal
 
 pub returns-clause-owned : goal.returns-clause-owned
 returns-clause-owned g c = let v : View = c.args.self.now.pass.now.seat.me.0 in let i : c.r.inside.index ≡ c.args.r.index = ap (λ (z : RefParts). z.index) c.r.view_is in let value : ℕ = c.pack_link-value.result in
-    let p = c.store_field.ensures.pass in λ q o. (record { table = p.table ∙ o.0.table; setup = p.setup ∙ o.0.setup; present = p.present ∙ o.0.present }, owns_stored v _ c.args.r value c.args.next (c.store_field.ensures.step ∙ ap (λ (k : ℕ). stored v k 1 value) i) (ap (λ (l : LinkParts). l.target) (c.pack_link-value.ensures.link ∙ c.to.ensures.link)) c.requires.owned.1 q o.1)
+    let p = c.store_field.ensures.pass in λ q o. (
+      record { table = p.table ∙ o.0.table; setup = p.setup ∙ o.0.setup; present = p.present ∙ o.0.present },
+      owns_stored v _ c.args.r value c.args.next (c.store_field.ensures.step ∙ ap (λ (k : ℕ). stored v k 1 value) i)
+          (ap (λ (l : LinkParts). l.target) (c.pack_link-value.ensures.link ∙ c.to.ensures.link)) c.requires.owned.1 q o.1,
+    )
 
 pub returns-clause-same : goal.returns-clause-same
 returns-clause-same g c = let v : View = c.args.self.now.pass.now.seat.me.0 in let i : c.r.inside.index ≡ c.args.r.index = ap (λ (z : RefParts). z.index) c.r.view_is in let value : ℕ = c.pack_link-value.result in

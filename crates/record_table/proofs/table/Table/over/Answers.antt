@@ -10,7 +10,8 @@ use Rattle.record_table.proofs.table.Table.over.Goals as goal
 
 pub of_words-requires : goal.of_words-requires
 of_words-requires g c = let k : Setup = c.args.setup in let e = c.as_slice.ensures.value ∙ c.requires.words in
-    subst (λ (ws : List ℕ). Rule g.S.Shape.facts g.R.Cover.facts k (opening ws [] (first_view g.R.Cover.facts.first k))) (sym e) (opens k c.requires.numbers g.S.Shape.facts g.R.Cover.facts g.S.Shape.laws g.R.Cover.laws (c.requires.set ∙ sym g.S.Shape.named) (c.requires.reclaimer ∙ sym g.R.Cover.named))
+    subst (λ (ws : List ℕ). Rule g.S.Shape.facts g.R.Cover.facts k (opening ws [] (first_view g.R.Cover.facts.first k))) (sym e)
+    (opens k c.requires.numbers g.S.Shape.facts g.R.Cover.facts g.S.Shape.laws g.R.Cover.laws (c.requires.set ∙ sym g.S.Shape.named) (c.requires.reclaimer ∙ sym g.R.Cover.named))
 
 pub invariant_of-table : goal.invariant_of-table
 invariant_of-table g c = let k : Setup = c.args.setup in let same = c.in_ok-board.ensures.5 in let wide : length (opening_words k) ≡ size k.callers k.records = wide_is k c.requires.numbers.rooted in

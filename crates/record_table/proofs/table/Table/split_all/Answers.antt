@@ -17,6 +17,7 @@ loop-caller-preserved g c = let t = c.args.self.now in let lt : c.loop-caller.ca
       is = did.pass;
       rest = subst (IsFreshWith t.board.shared.key g.R.Cover.facts.first 0 (books_from t.board.shared.key g.R.Cover.facts.first (c.loop-caller.caller + 1))) (sym did.left) (left_fresh t.board.shared.key g.R.Cover.facts.first c.loop-caller.caller 0 _ inv.rest lt);
       made = subst (AreFreshFrom t g.R.Cover.facts.first 1) (sym c.in_ok-push.ensures.items)
-          (fresh_more t g.R.Cover.facts.first 1 c.loop-caller.caller c.loop-caller.passes.items c.split_pass-pass.result inv.made inv.many did.new (subst (IsFresh t.board.shared.key g.R.Cover.facts.first c.loop-caller.caller) (sym did.right) (right_fresh t.board.shared.key g.R.Cover.facts.first c.loop-caller.caller 0 _ inv.rest lt)) did.outside);
+          (fresh_more t g.R.Cover.facts.first 1 c.loop-caller.caller c.loop-caller.passes.items c.split_pass-pass.result inv.made inv.many did.new
+          (subst (IsFresh t.board.shared.key g.R.Cover.facts.first c.loop-caller.caller) (sym did.right) (right_fresh t.board.shared.key g.R.Cover.facts.first c.loop-caller.caller 0 _ inv.rest lt)) did.outside);
       many = let e = ap length c.in_ok-push.ensures.items in let l = length_push c.loop-caller.passes.items c.split_pass-pass.result in let m = inv.many in omega arith;
     }

@@ -1,6 +1,3 @@
-use Rattle.std.proofs.Common.{sym, ap, ◌∙◌}
-use Rattle.record_memory.specs.declared.books.Setup.{Setup}
-use Rattle.record_memory.specs.Memory.{word_at}
 use Rattle.record_rule.proofs.Owners.{stores_word}
 use Rattle.record_table.proofs.Recording.{adds_stored}
 use Rattle.record_table.proofs.table.Table.store_field.Goals as goal

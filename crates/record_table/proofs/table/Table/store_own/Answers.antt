@@ -12,7 +12,8 @@ pub store_field-requires-clause-allowed : goal.store_field-requires-clause-allow
 store_field-requires-clause-allowed g c = let own = c.requires.own in let v : View = c.args.pass.now.seat.me.0 in let r : RefParts = c.args.own.now in
     let i : c.record.inside.index ≡ r.index = ap (λ (z : RefParts). z.index) (c.record.view_is ∙ c.own.view_is) in
     subst (λ (z : ℕ × ℕ). (h : Share) × (share_in v z.0 ≡ Some h) × MayStore h z.1 c.pack_number-value.result) (λ k. (sym i k, c.args.word))
-    (may_store_own v r own.0 c.args.word c.pack_number-value.result c.args.payload own.1 c.requires.word.0 c.requires.word.1 c.requires.payload c.requires.link (c.pack_number-value.ensures.word ∙ ap (λ (z : ℕ). packed_number z c.args.payload) (c.get.ensures.number ∙ ap (λ (z : RefParts). z.generation) (c.record.view_is ∙ c.own.view_is))))
+    (may_store_own v r own.0 c.args.word c.pack_number-value.result c.args.payload own.1 c.requires.word.0 c.requires.word.1 c.requires.payload c.requires.link
+    (c.pack_number-value.ensures.word ∙ ap (λ (z : ℕ). packed_number z c.args.payload) (c.get.ensures.number ∙ ap (λ (z : RefParts). z.generation) (c.record.view_is ∙ c.own.view_is))))
 
 pub returns-clause-own : goal.returns-clause-own
 returns-clause-own g c = let own = c.requires.own in let v : View = c.args.pass.now.seat.me.0 in let r : RefParts = c.args.own.now in let value : ℕ = c.pack_number-value.result in

@@ -13,8 +13,10 @@ returns-clause-progress c = λ bytes rest behind h m text.
     let size : c.len.result ≡ length p.calls.items = omega arith in
     let pushed = c.in_ok-push.ensures.items ∙ ap (λ (n : ℕ). p.open_cuts.items ++ n ∷ []) size in
     elim c.if-self-eq0.branch [
-      | then-self-eq0 w ↦ phase_progress bytes rest behind p q h m text (ap (λ (r : Progress). r.open_cuts.items) w.self-is ∙ pushed) (ap (λ (r : Progress). r.lists) w.self-is) (ap (λ (r : Progress). r.cuts) w.self-is) (ap (λ (r : Progress). r.calls) w.self-is) (ap (λ (r : Progress). r.lines) w.self-is)
+      | then-self-eq0 w ↦ phase_progress bytes rest behind p q h m text (ap (λ (r : Progress). r.open_cuts.items) w.self-is ∙ pushed)
+          (ap (λ (r : Progress). r.lists) w.self-is) (ap (λ (r : Progress). r.cuts) w.self-is) (ap (λ (r : Progress). r.calls) w.self-is) (ap (λ (r : Progress). r.lines) w.self-is)
           (ap (λ (r : Progress). r.seen) w.self-is ∙ ap (λ (n : ℕ). record (with_phase_line p.seen) { first_phases = n }) (sym (first_phases_of_first p.seen p.seen.caller w.if-self-eq0.true)))
-      | else-self-eq0 w ↦ phase_progress bytes rest behind p q h m text (ap (λ (r : Progress). r.open_cuts.items) w.self-is ∙ pushed) (ap (λ (r : Progress). r.lists) w.self-is) (ap (λ (r : Progress). r.cuts) w.self-is) (ap (λ (r : Progress). r.calls) w.self-is) (ap (λ (r : Progress). r.lines) w.self-is)
+      | else-self-eq0 w ↦ phase_progress bytes rest behind p q h m text (ap (λ (r : Progress). r.open_cuts.items) w.self-is ∙ pushed)
+          (ap (λ (r : Progress). r.lists) w.self-is) (ap (λ (r : Progress). r.cuts) w.self-is) (ap (λ (r : Progress). r.calls) w.self-is) (ap (λ (r : Progress). r.lines) w.self-is)
           (ap (λ (r : Progress). r.seen) w.self-is ∙ ap (λ (n : ℕ). record (with_phase_line p.seen) { first_phases = n }) (sym (first_phases_of_other p.seen p.seen.caller (let ne = w.if-self-eq0.false in omega (arith, ne)))))
     ]

@@ -8,12 +8,25 @@ use Rattle.workload_text.proofs.workload.Workload.calls_in.Goals as goal
 
 pub list_at-calls-requires : goal.list_at-calls-requires
 list_at-calls-requires c =
-    omega (arith, length_held c.self.inside.lists.items c.self.inside.cuts c.self.invariant, ap (λ (plan : Plan). length plan.lists) c.self.view_is, ap (λ (vecs : List (Vec Call)). length vecs) c.deref.ensures.value, c.requires.caller)
+    omega (
+      arith,
+      length_held c.self.inside.lists.items c.self.inside.cuts c.self.invariant,
+      ap (λ (plan : Plan). length plan.lists) c.self.view_is,
+      ap (λ (vecs : List (Vec Call)). length vecs) c.deref.ensures.value,
+      c.requires.caller,
+    )
 
 pub cuts_at-requires : goal.cuts_at-requires
 cuts_at-requires c =
     let h = subst (IsHeld c.self.inside.lists.items) c.in-Some.is c.self.invariant in
-    omega (arith, length_cuts_held c.self.inside.lists.items c.in-Some.cuts h, length_held c.self.inside.lists.items c.self.inside.cuts c.self.invariant, ap (λ (plan : Plan). length plan.lists) c.self.view_is, ap (λ (vecs : List (Vec ℕ)). length vecs) c.deref-in-Some.ensures.value, c.requires.caller)
+    omega (
+      arith,
+      length_cuts_held c.self.inside.lists.items c.in-Some.cuts h,
+      length_held c.self.inside.lists.items c.self.inside.cuts c.self.invariant,
+      ap (λ (plan : Plan). length plan.lists) c.self.view_is,
+      ap (λ (vecs : List (Vec ℕ)). length vecs) c.deref-in-Some.ensures.value,
+      c.requires.caller,
+    )
 
 -- the caller's calls and cuts
 module _ (lists : List (Vec Call)) (held : Option (Vec (Vec ℕ))) (cuts : Vec (Vec ℕ)) (plan : Plan) (some : List (Vec Call)) (slice : List (Vec ℕ)) (caller : ℕ) (calls : List Call) (cs : List ℕ)
@@ -36,11 +49,13 @@ module _ (lists : List (Vec Call)) (held : Option (Vec (Vec ℕ))) (cuts : Vec (
 
 pub phase_of-requires-clause-cuts : goal.phase_of-requires-clause-cuts
 phase_of-requires-clause-cuts c =
-    are_cuts c.self.inside.lists.items c.self.inside.cuts c.in-Some.cuts c.args.self.now c.deref.result.now c.deref-in-Some.result.now c.args.caller c.list_at-calls.result.now c.cuts_at.result.now c.self.invariant c.in-Some.is c.self.view_is c.deref.ensures.value c.deref-in-Some.ensures.value c.list_at-calls.ensures c.cuts_at.ensures
+    are_cuts c.self.inside.lists.items c.self.inside.cuts c.in-Some.cuts c.args.self.now c.deref.result.now c.deref-in-Some.result.now c.args.caller c.list_at-calls.result.now c.cuts_at.result.now
+    c.self.invariant c.in-Some.is c.self.view_is c.deref.ensures.value c.deref-in-Some.ensures.value c.list_at-calls.ensures c.cuts_at.ensures
 
 pub phase_of-requires-clause-within : goal.phase_of-requires-clause-within
 phase_of-requires-clause-within c =
-    let all = count c.self.inside.lists.items c.self.inside.cuts c.in-Some.cuts c.args.self.now c.deref.result.now c.deref-in-Some.result.now c.args.caller c.list_at-calls.result.now c.cuts_at.result.now c.self.invariant c.in-Some.is c.self.view_is c.deref.ensures.value c.deref-in-Some.ensures.value c.list_at-calls.ensures c.cuts_at.ensures in
+    let all = count c.self.inside.lists.items c.self.inside.cuts c.in-Some.cuts c.args.self.now c.deref.result.now c.deref-in-Some.result.now c.args.caller c.list_at-calls.result.now c.cuts_at.result.now
+    c.self.invariant c.in-Some.is c.self.view_is c.deref.ensures.value c.deref-in-Some.ensures.value c.list_at-calls.ensures c.cuts_at.ensures in
     omega (arith, all, c.requires.phase)
 
 whole : (lists : List (Vec Call)) (held : Option (Vec (Vec ℕ))) (plan : Plan) (some : List (Vec Call)) (caller phase : ℕ) (calls : List Call) (phases : List (List Call)) → held ≡ None → plan_held lists held ≡ plan → some ≡ lists → slice_get (lists_of some) caller ≡ Some calls
@@ -55,5 +70,6 @@ returns-in-None-clause-calls c = λ phases k.
 
 pub returns-in-Some-clause-calls : goal.returns-in-Some-clause-calls
 returns-in-Some-clause-calls c = λ phases k.
-    let same = same_phases c.self.inside.lists.items c.self.inside.cuts c.in-Some.cuts c.args.self.now c.deref.result.now c.deref-in-Some.result.now c.args.caller c.list_at-calls.result.now c.cuts_at.result.now c.self.invariant c.in-Some.is c.self.view_is c.deref.ensures.value c.deref-in-Some.ensures.value c.list_at-calls.ensures c.cuts_at.ensures phases k in
+    let same = same_phases c.self.inside.lists.items c.self.inside.cuts c.in-Some.cuts c.args.self.now c.deref.result.now c.deref-in-Some.result.now c.args.caller c.list_at-calls.result.now c.cuts_at.result.now
+    c.self.invariant c.in-Some.is c.self.view_is c.deref.ensures.value c.deref-in-Some.ensures.value c.list_at-calls.ensures c.cuts_at.ensures phases k in
     ap (λ (ps : List (List Call)). slice_get ps c.args.phase) (sym same) ∙ c.phase_of.ensures

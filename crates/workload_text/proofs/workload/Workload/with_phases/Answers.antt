@@ -22,6 +22,7 @@ loop-phases-preserved c =
     let phase = c.in_ok-one.ensures.phases ∙ ap lists_of c.deref.ensures.value in
     let next = next_lists c.deref-phases-items.result.now c.loop-phases.phases-index c.phases-item.result c.loop-phases-test.true c.phases-item.is in
     record {
-      lists = joined ∙ ap (λ (ls : List (List (List Call))). ls ++ cut_at c.in_ok-one.one.cuts.items c.in_ok-one.one.calls.items ∷ []) c.loop-phases.invariant.lists ∙ ap (λ (ps : List (List Call)). take c.loop-phases.phases-index (phases_held c.deref-phases-items.result.now) ++ ps ∷ []) phase ∙ sym next;
+      lists = joined ∙ ap (λ (ls : List (List (List Call))). ls ++ cut_at c.in_ok-one.one.cuts.items c.in_ok-one.one.calls.items ∷ []) c.loop-phases.invariant.lists
+          ∙ ap (λ (ps : List (List Call)). take c.loop-phases.phases-index (phases_held c.deref-phases-items.result.now) ++ ps ∷ []) phase ∙ sym next;
       cut = more_cuts c.loop-phases.joined_lists.items c.push.new.self.items c.loop-phases.cut_lists.items c.push-in-loop-phases.new.self.items c.in_ok-one.one.calls c.in_ok-one.one.cuts c.in_ok-push.ensures.items c.in_ok-push-2.ensures.items c.loop-phases.invariant.cut c.in_ok-one.ensures.cuts;
     }

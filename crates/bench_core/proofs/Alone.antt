@@ -1,0 +1,149 @@
+-- Where callers share no key, each is told what it would be told alone.
+use Rattle.std.proofs.Common.{◌≡◌, ◌≢◌, ℕ, zero, suc, ◌+◌, ◌%◌, ◌<◌, ◌≤◌, inl, inr, Option, false, not, ◌||◌, ◌&&◌, eqb, Some, List, [], ◌∷◌, ◌++◌, map, slice_get, slice_index_or, refl, sym, ap, ◌∙◌, subst, ne_eqb, append-nil, add-one, arith}
+use Rattle.std.proofs.lemmas.Bool.Decides.{eqb_tells}
+use Rattle.std.specs.List.{AllByRecursion}
+use Rattle.set_model.specs.declared.calls.Call.{Call}
+use Rattle.set_model.specs.declared.calls.Call.TheVariants.{Insert, Remove, Search}
+use Rattle.set_model.specs.Keys.{Keys, contains, empty}
+use Rattle.set_model.specs.Machine.{key_of, keys_after, keys_after_all, reply_of, reply_of_answer, replies_of}
+use Rattle.set_model.proofs.KeySets.{contains-insert, contains-remove}
+use Rattle.workload_gen.specs.declared.plan.GenPlan.{GenPlan}
+use Rattle.workload_gen.specs.Generated.{caller_calls, callers_from, generated}
+use Rattle.workload_gen.proofs.Lawful.{no_phase_lines}
+use Rattle.workload_gen.proofs.OwnKeys.{IsOwn, own_calls}
+use Rattle.std.specs.Option.{option_map}
+use Rattle.std.proofs.lemmas.Option.{slice_get-map}
+use Rattle.workload_text.proofs.Held.{none_is, some_is}
+use Rattle.workload_text.specs.Limits.{Plan, joined, plan_of}
+use Rattle.command_words.specs.declared.command.Command.TheVariants as command
+use Rattle.command_words.specs.declared.command.TrialWords.{TrialWords}
+use Rattle.set_model.specs.declared.names.ReclaimerName.{ReclaimerName}
+use Rattle.set_model.specs.declared.names.SetName.{SetName}
+use Rattle.set_model.specs.declared.names.SetName.TheVariants.{Plain, Michael, Lazy}
+use Rattle.report_text.specs.declared.report.Played.{Played}
+use Rattle.report_text.specs.declared.report.Report.{Report}
+use Rattle.bench_core.specs.declared.ending.Run.{Run}
+use Rattle.bench_core.specs.declared.ending.Verdict.{Verdict}
+use Rattle.bench_core.specs.declared.ending.Verdict.TheVariants as verdict
+use Rattle.bench_core.specs.Ending.{FindsIn, IsRun, run_of}
+use Rattle.bench_core.specs.Plays.{AreAlone, IsPlainRun, pieces_in, order_of, told_to}
+
+-- the keys of all these calls are such
+abbrev Name : (ℕ → Type 0) → List Call → Type 0
+Name P calls = AllByRecursion (λ call. P (key_of call)) calls
+
+-- two sets have the same of these keys
+abbrev Agree : (ℕ → Type 0) → Keys → Keys → Type 0
+Agree P s t = (key : ℕ) → P key → contains s key ≡ contains t key
+
+agree-after : (P : ℕ → Type 0) (call : Call) (s t : Keys) → Agree P s t → Agree P (keys_after call s) (keys_after call t)
+agree-after P (Insert added) s t same = λ key own. contains-insert s added key ∙ ap (λ b. eqb key added || b) (same key own) ∙ sym (contains-insert t added key)
+agree-after P (Remove gone) s t same = λ key own. contains-remove s gone key ∙ ap (λ b. not (eqb key gone) && b) (same key own) ∙ sym (contains-remove t gone key)
+agree-after P (Search key) s t same = same
+
+same_reply : (call : Call) (s t : Keys) → contains s (key_of call) ≡ contains t (key_of call) → reply_of call s ≡ reply_of call t
+same_reply (Insert key) s t same = ap (λ b. reply_of_answer (not b)) same
+same_reply (Remove key) s t same = ap reply_of_answer same
+same_reply (Search key) s t same = ap reply_of_answer same
+
+-- calls on such keys are told the same
+same_replies : (P : ℕ → Type 0) (calls : List Call) (s t : Keys) → Name P calls → Agree P s t → replies_of calls s ≡ replies_of calls t
+same_replies P [] s t names same = refl
+same_replies P (call ∷ calls) s t names same =
+    ap (λ reply. reply ∷ replies_of calls (keys_after call s)) (same_reply call s t (same (key_of call) names.0))
+    ∙ ap (λ replies. reply_of call t ∷ replies) (same_replies P calls (keys_after call s) (keys_after call t) names.1 (agree-after P call s t same))
+
+untouched-once : (key : ℕ) (call : Call) (keys : Keys) → key ≢ key_of call → contains (keys_after call keys) key ≡ contains keys key
+untouched-once key (Insert added) keys other = contains-insert keys added key ∙ ap (λ b. b || contains keys key) (ne_eqb key added other)
+untouched-once key (Remove gone) keys other = contains-remove keys gone key ∙ ap (λ b. not b && contains keys key) (ne_eqb key gone other)
+untouched-once key (Search wanted) keys other = refl
+
+-- calls on other keys leave a key as it was
+untouched : (key : ℕ) (calls : List Call) (keys : Keys) → Name (λ other. key ≢ other) calls → contains (keys_after_all calls keys) key ≡ contains keys key
+untouched key [] keys names = refl
+untouched key (call ∷ calls) keys names = untouched key calls (keys_after call keys) names.1 ∙ untouched-once key call keys names.0
+
+-- each caller's calls in one phase
+abbrev one_phase : List (List Call) → List (List (List Call))
+one_phase lists = map (λ calls. calls ∷ []) lists
+
+-- callers that come later are told elsewhere
+told_before : (lists : List (List (List Call))) (first caller : ℕ) (keys : Keys) → caller < first → told_to caller (pieces_in 0 lists first) keys ≡ []
+told_before [] first caller keys before = refl
+told_before (phases ∷ lists) first caller keys before =
+    let others : first ≢ caller = omega (arith, before) in
+    let more : caller < suc first = omega (arith, before) in
+    rw (ne_eqb first caller others) (told_before lists (suc first) caller (keys_after_all (slice_index_or phases 0 []) keys) more)
+
+module _ (plan : GenPlan) (unshared : plan.shared ≡ false) where
+  others : (caller other key : ℕ) (calls : List Call) → other ≢ caller → IsOwn plan caller key → Name (IsOwn plan other) calls → Name (λ named. key ≢ named) calls
+  others caller other key [] apart own names = tt
+  others caller other key (call ∷ calls) apart own names =
+      (λ same. apart (sym names.0 ∙ ap (λ named. named % plan.callers) (sym same) ∙ own), others caller other key calls apart own names.1)
+
+  told_from : (first count caller : ℕ) (keys : Keys) → first ≤ caller → caller < first + count → first + count ≤ plan.callers → Agree (IsOwn plan caller) keys empty
+      → told_to caller (pieces_in 0 (one_phase (callers_from plan first count)) first) keys ≡ replies_of (caller_calls plan caller) empty
+  told_from first zero caller keys from to most free = absurd (omega (arith, from, to))
+  told_from first (suc count) caller keys from to most free =
+      let calls = caller_calls plan first in
+      let later = keys_after_all calls keys in
+      let rest = one_phase (callers_from plan (first + 1) count) in
+      elim (eqb_tells first caller) [
+        | inl here ↦
+            let none = told_before rest (suc first) caller later (omega (arith, here.1)) in
+            rw (here.0, none, append-nil) (
+            same_replies (IsOwn plan caller) calls keys empty (subst (λ n. Name (IsOwn plan n) calls) here.1 (own_calls plan unshared first (omega (arith, most)))) free
+            ∙ ap (λ n. replies_of (caller_calls plan n) empty) here.1
+            )
+        | inr there ↦
+            let named = own_calls plan unshared first (omega (arith, most)) in
+            let still : Agree (IsOwn plan caller) later empty = λ key own. untouched key calls keys (others caller first key calls there.1 own named) ∙ free key own in
+            let next = told_from (first + 1) count caller later (omega (arith, from, there.1)) (omega (arith, to)) (omega (arith, most)) still in
+            rw there.0 (subst (λ n. told_to caller (pieces_in 0 rest n) later ≡ replies_of (caller_calls plan caller) empty) (add-one first) next)
+      ]
+
+  pub told_alone : (caller : ℕ) → caller < plan.callers → told_to caller (order_of (one_phase (generated plan))) empty ≡ replies_of (caller_calls plan caller) empty
+  told_alone caller within =
+      let lists = one_phase (generated plan) in
+      rw (no_phase_lines (generated plan), append-nil) (told_from 0 plan.callers caller empty (omega arith) (omega (arith, within)) (omega arith) (λ key own. refl))
+
+called_at : (plan : GenPlan) (first count place caller : ℕ) (calls : List Call) → caller ≡ first + place → slice_get (joined (one_phase (callers_from plan first count))) place ≡ Some calls
+    → (calls ≡ caller_calls plan caller) × (place < count)
+called_at plan first zero place caller calls at is = absurd (none_is calls is)
+called_at plan first (suc count) zero caller calls at is =
+    (sym (some_is (caller_calls plan first ++ []) calls is) ∙ append-nil (caller_calls plan first) ∙ ap (caller_calls plan) (omega (arith, at)), omega arith)
+called_at plan first (suc count) (suc place) caller calls at is =
+    let next = called_at plan (first + 1) count place caller calls (omega (arith, at)) is in
+    (next.0, omega (arith, next.1))
+
+pub plain_alone : (sizes : GenPlan) → sizes.shared ≡ false → (plan : Plan) → plan ≡ plan_of (generated sizes) → (report : Report) → IsPlainRun plan report → AreAlone report.callers
+plain_alone sizes unshared plan is report played = λ caller one there.
+    let lists = one_phase (generated sizes) in
+    let calls : slice_get (joined lists) caller ≡ Some one.calls = ap (λ all. slice_get all caller) (sym (played.calls ∙ ap (λ (p : Plan). joined p.lists) is))
+    ∙ slice_get-map (λ (p : Played). p.calls) report.callers caller ∙ ap (option_map (λ (p : Played). p.calls)) there in
+    let own = called_at sizes 0 sizes.callers caller caller one.calls (omega arith) calls in
+    played.replies caller one there ∙ ap (λ (p : Plan). told_to caller (order_of p.lists) empty) is ∙ told_alone sizes unshared caller own.1 ∙ ap (λ calls. replies_of calls empty) (sym own.0)
+
+plain_run : (set : SetName) (reclaimer : ReclaimerName) (plan : Plan) (run : Run) → IsRun set reclaimer plan run → IsPlainRun plan run.report
+plain_run Plain reclaimer plan run played = played
+plain_run Michael reclaimer plan run played = absurd played
+plain_run Lazy reclaimer plan run played = absurd played
+
+-- a verdict of a trial with a run
+pub alone_found : {S : Type 0} (left : S → Option (List ℕ)) (before after : S) (chosen : TrialWords) (found : Verdict) (run : Run) → chosen.workload.shared ≡ false
+    → FindsIn left before after (command.Trial chosen) found → run_of found ≡ Some run → AreAlone run.report.callers
+alone_found left before after chosen verdict.WordsRefused run unshared finds is = absurd finds
+alone_found left before after chosen (verdict.Unlawful pair) run unshared finds is = absurd (none_is run is)
+alone_found left before after chosen verdict.ReadFault run unshared finds is = absurd finds.0
+alone_found left before after chosen verdict.TooLong run unshared finds is = absurd finds.0
+alone_found left before after chosen (verdict.WorkloadRefused cause) run unshared finds is = absurd finds.0
+alone_found left before after chosen verdict.OutOfMemory run unshared finds is = absurd (none_is run is)
+alone_found left before after chosen (verdict.Checked sizes) run unshared finds is = absurd (none_is run is)
+alone_found left before after chosen (verdict.Generated text) run unshared finds is = absurd (none_is run is)
+alone_found left before after chosen (verdict.Played other) run unshared finds is = absurd (let same : command.Trial chosen ≡ command.Play finds.0 = finds.1 in cc)
+alone_found left before after chosen (verdict.Tried other) run unshared finds is =
+    let words = finds.0 in
+    let same : chosen ≡ words = let trials : command.Trial chosen ≡ command.Trial words = finds.1 in cc in
+    let made = finds.5 in
+    let own : made.0.shared ≡ false = made.1.shared ∙ ap (λ (w : TrialWords). w.workload.shared) (sym same) ∙ unshared in
+    subst (λ (r : Run). AreAlone r.report.callers) (some_is other run is) (plain_alone made.0 own finds.4 made.2 other.report (plain_run words.set words.reclaimer finds.4 other finds.6))
