@@ -4,7 +4,7 @@ use Rattle.atomic_table.proofs.Lists.{set_else}
 use Rattle.row_words.specs.Refs.{RefParts, LinkParts, refer}
 use Rattle.record_memory.specs.declared.books.Note.{Note}
 use Rattle.record_rule.specs.Inputs.{ShapeCell, hidden, root, linked, out, ShapeInput}
-use Rattle.record_rule.specs.Facts.{At, link_at, key_at, clean, Near, at_root, at_held, ShapeFacts, FitsNear, is_root, is_linked, is_out}
+use Rattle.record_rule.specs.Facts.{At, link_at, key_at, clean, Near, at_root, at_held, ShapeFacts, FitsNote, FitsNear, is_root, is_linked, is_out}
 use Rattle.record_rule.specs.Laws.{NodeIs, recelled}
 use Rattle.record_rule.proofs.Lists.{one_at}
 use Rattle.one_key_facts.specs.OneKey.{LeadsToKey, IsUnder, CellFits, OneKeyFits}
@@ -17,6 +17,11 @@ module _ {s : ShapeFacts} {cells : List ShapeCell} where
   -- a node's cell with another body and position
   pub recelled_as : {near : Near} {f : ℕ} {l : LinkParts} (n : NodeIs s cells near f l) (cell : ShapeCell) → At cells n.index cell → (body : List ℕ) (m : ℕ) → recelled n.cell body m ≡ recelled cell body m
   recelled_as n cell at body m = ap (λ (c : ShapeCell). recelled c body m) (one_at cells n.index n.cell cell n.at at)
+
+  -- what is noted of a held record is its body's
+  pub noted : {r : RefParts} {note : Note} {i generation m : ℕ} {body : List ℕ} → FitsNear s cells (at_held r note) i generation body m → FitsNote s note body
+  noted (is_linked i generation m body note at known) = known
+  noted (is_out i generation m n body note at known) = known
 
   -- a held record is linked where a linked one stands
   pub linked_held : {r : RefParts} {note : Note} {i generation m : ℕ} {body : List ℕ} → FitsNear s cells (at_held r note) i generation body m → (g k : ℕ) (b : List ℕ) → At cells i (linked g b k) → At cells i (linked generation body m)
@@ -35,7 +40,7 @@ module _ {x : ShapeInput} (fits : OneKeyFits x) where
 
   -- the root of a linked record's key leads to it alone
   pub under : (i generation m : ℕ) (body : List ℕ) → At x.cells i (linked generation body m) → IsUnder x.cells (key_at body) (refer (i + 1) generation)
-  under i generation m body at = (fits.each i (linked generation body m) at).2
+  under i generation m body at = (fits.each i (linked generation body m) at).3
 
   -- so linked records of one key are one
   pub one_linked : (i j g h m k : ℕ) (a b : List ℕ) → At x.cells i (linked g a m) → At x.cells j (linked h b k) → key_at a ≡ key_at b → i ≡ j
@@ -57,7 +62,7 @@ pub fits_still : (cells cells' : List ShapeCell) (i : ℕ) (cell : ShapeCell)
     → CellFits cells i cell → CellFits cells' i cell
 fits_still cells cells' i hidden roots records fit = tt
 fits_still cells cells' i (root generation body m) roots records fit = (fit.0, λ t to. roots generation m body t refl to (fit.1 t to))
-fits_still cells cells' i (linked generation body m) roots records fit = (fit.0, fit.1, records generation m body refl fit.2)
+fits_still cells cells' i (linked generation body m) roots records fit = (fit.0, fit.1, fit.2, records generation m body refl fit.3)
 fits_still cells cells' i (out generation body m n) roots records fit = fit
 
 -- a root is there still once another cell was set

@@ -4,4 +4,5 @@ pub mod Linking
 pub mod TakingOut
 pub mod Opening
 pub mod Shows
+pub mod Walking
 pub mod OneKeyLaws

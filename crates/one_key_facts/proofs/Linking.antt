@@ -6,10 +6,10 @@ use Rattle.set_model.specs.declared.calls.Call.{Call}
 use Rattle.set_model.specs.Keys.{contains}
 use Rattle.set_model.specs.Histories.{keys_of}
 use Rattle.row_words.specs.Refs.{RefParts, LinkParts, IsRef, refer}
-use Rattle.row_words.specs.Packing.{link_in, key_in, IsLink}
-use Rattle.row_words.proofs.Packed.{link_in-packed_link, key_in-packed_key}
+use Rattle.row_words.specs.Packing.{link_in, key_in, kind_in, IsLink}
+use Rattle.row_words.proofs.Packed.{link_in-packed_link, key_in-packed_key, kind_in-packed_key}
 use Rattle.record_rule.specs.Inputs.{ShapeCell, hidden, root, linked, ShapeInput, Trace}
-use Rattle.record_rule.specs.Facts.{At, link_at, key_at, with_link, mark_bit, HasMark, clean, at_root, ShapeFacts, update_for}
+use Rattle.record_rule.specs.Facts.{At, word_in, link_at, key_at, with_link, mark_bit, HasMark, clean, at_root, ShapeFacts, update_for}
 use Rattle.record_rule.specs.Laws.{NodeIs, relinked, marked_after, grown}
 use Rattle.record_rule.specs.Machines.{set_legal}
 use Rattle.record_rule.proofs.Lists.{below_at, one_at, each_set}
@@ -36,6 +36,9 @@ module _ {x : ShapeInput} {h : Trace} (fits : OneKeyFits x) (told : ListTold x h
 
   own_key : key_at body ≡ may.key
   own_key = ap key_in may.node.key_is ∙ key_in-packed_key may.generation 0 may.key may.node.key_fits
+
+  own_kind : kind_in (word_in body 4) ≡ 0
+  own_kind = ap kind_in may.node.key_is ∙ kind_in-packed_key may.generation 0 may.key (omega arith) may.node.key_fits
 
   own_link : link_at body 3 ≡ empty
   own_link = ap link_in may.node.link_is ∙ link_in-packed_link may.generation empty record { flags = omega arith; target = tt }
@@ -119,6 +122,7 @@ module _ {x : ShapeInput} {h : Trace} (fits : OneKeyFits x) (told : ListTold x h
     own_fits = (
       (let flags_are = ap (λ (l : LinkParts). l.flags) own_link in omega arith),
       ap (λ (l : LinkParts). l.target) own_link,
+      own_kind,
       subst (λ k. IsUnder cells_after k (refer (own.index - 1 + 1) own.generation)) (index_is ∙ sym own_key) (subst (IsUnder cells_after n.index) (sym named) (n.generation, m, body_after, root_here, link_after)),
     )
 

@@ -5,7 +5,7 @@ use Rattle.atomic_table.proofs.Lists.{set_here}
 use Rattle.set_model.specs.declared.calls.Call.{Call}
 use Rattle.set_model.specs.declared.calls.Call.TheVariants.{Remove}
 use Rattle.row_words.specs.Refs.{RefParts, LinkParts, refer}
-use Rattle.row_words.specs.Packing.{IsLink, key_in}
+use Rattle.row_words.specs.Packing.{IsLink, key_in, kind_in}
 use Rattle.record_memory.specs.declared.books.Note.{Note}
 use Rattle.record_rule.specs.Inputs.{ShapeCell, hidden, root, linked, out, ShapeInput, Trace}
 use Rattle.record_rule.specs.Facts.{At, link_at, key_at, with_link, mark_bit, HasMark, at_held, ShapeFacts, update_for}
@@ -14,12 +14,12 @@ use Rattle.record_rule.specs.Machines.{set_legal}
 use Rattle.record_rule.proofs.Lists.{below_at, one_at, each_set}
 use Rattle.list_facts.specs.Tellings.{ListTold}
 use Rattle.list_facts.specs.Steps.{marked_with}
-use Rattle.list_facts.proofs.Bodies.{link_with_link, key_with_link, clear_flags, marked_new}
-use Rattle.list_facts.proofs.Nodes.{noted, link_is as node_link}
+use Rattle.list_facts.proofs.Bodies.{link_with_link, key_word_with_link, key_with_link, clear_flags, marked_new}
+use Rattle.list_facts.proofs.Nodes.{link_is as node_link}
 use Rattle.list_facts.proofs.Present.{HasKey, MarkedAs}
 use Rattle.list_facts.proofs.Told.{update, told_removed}
 use Rattle.one_key_facts.specs.OneKey.{LeadsToKey, IsUnder, CellFits, OneKeyFits, MayMark}
-use Rattle.one_key_facts.proofs.Cells.{recelled_as, apart, linked_there, one_linked, fits_still, under_else, leads_key_else}
+use Rattle.one_key_facts.proofs.Cells.{noted, recelled_as, apart, linked_there, one_linked, fits_still, under_else, leads_key_else}
 
 -- a cell that has a key is the linked record with that key
 only_one : {x : ShapeInput} → OneKeyFits x → (i generation m : ℕ) (body : List ℕ) → At x.cells i (linked generation body m) → (j : ℕ) (cell : ShapeCell) → At x.cells j cell → HasKey cell (key_at body) → j ≡ i
@@ -97,7 +97,7 @@ module _ {x : ShapeInput} {h : Trace} (fits : OneKeyFits x) (told : ListTold x h
       let was = fits.each n.index (linked n.generation n.body n.marked) was_linked in
       let flags_are : (link_at body_after 3).flags ≡ 1 = ap (λ (l : LinkParts). l.flags) (link_after ∙ may.2) in
       let target_is = ap (λ (l : LinkParts). l.target) (link_after ∙ may.2 ∙ ap marked_with (sym (node_link n may.0))) in
-      (omega arith, target_is ∙ was.1, subst (λ k. IsUnder cells_after k (refer (n.index + 1) n.generation)) (sym key_after) (root_still (key_at n.body) (refer (n.index + 1) n.generation) was.2))
+      (omega arith, target_is ∙ was.1, ap kind_in (key_word_with_link n.body f n.generation new may.0) ∙ was.2, subst (λ k. IsUnder cells_after k (refer (n.index + 1) n.generation)) (sym key_after) (root_still (key_at n.body) (refer (n.index + 1) n.generation) was.3))
 
   mark_fits : OneKeyFits (record x { cells = cells_after })
   mark_fits = record {

@@ -14,12 +14,12 @@ use Rattle.list_facts.proofs.Openings.{opening_told}
 use Rattle.list_facts.proofs.Hiding.{hiding_told}
 use Rattle.list_facts.proofs.Nodes.{link_is as node_link}
 use Rattle.one_key_facts.specs.OneKey.{OneKeyFits, MayMark, MayLink, MayTakeOut, one_key}
-use Rattle.one_key_facts.proofs.Cells.{}
 use Rattle.one_key_facts.proofs.Marking.{call_is, mark_legal, marks}
 use Rattle.one_key_facts.proofs.Linking.{link_legal, links}
 use Rattle.one_key_facts.proofs.TakingOut.{leads_there, not_root, takes}
 use Rattle.one_key_facts.proofs.Opening.{opening_fits, hiding_fits}
 use Rattle.one_key_facts.proofs.Shows.{ends_fit, shows}
+use Rattle.one_key_facts.proofs.Walking.{key_walks, key_reads}
 
 -- a link without a mark leads from a root to a linked record, and from a record nowhere
 reaches : (x : ShapeInput) (near : Near) (f : ℕ) (l : LinkParts) (t : RefParts) → OneKeyFits x → NodeIs one_key x.cells near f l → f ≡ 3 → ¬ HasMark l → l.target ≡ Some t → LeadsTo x.cells t
@@ -79,13 +79,15 @@ gone_linked x (at_root k) f old gone note new call fits n to may = let leads = l
 pub one_key_laws : ShapeLaws one_key
 one_key_laws = record {
   starts = λ setup h some fit none. (opening_fits setup, opening_told setup h none);
+  walks = λ setup x h given body t on step. key_walks given.1.0 body t on step;
+  reads = λ setup x h given roots. key_reads given.1.0 given.1.1;
   keys_stand = λ setup x near f l fits n. refl;
   reaches = λ setup x near f l t fits n hold clear to. reaches x near f l t fits n hold clear to;
-  exchanges = λ setup x h c number near f old new call given n in_range may. mark_keeps setup x h c number near f old new call given n in_range may;
-  publishes = λ setup x h c number near f old own body marked next call given n fits_next free ref long name may. link_keeps setup x h c number near f old own body marked call given n free ref may;
-  gone_linked = λ setup x near f old gone note new next call fits n to may. gone_linked x near f old gone note new call fits n to may;
+  exchanges = λ setup x h t new given n in_range may. mark_keeps setup x h t.caller t.number t.near t.field t.old new t.call given n in_range may;
+  publishes = λ setup x h t own body marked next given n fits_next free ref long name may. link_keeps setup x h t.caller t.number t.near t.field t.old own body marked t.call given n free ref may;
+  gone_linked = λ setup x t gone note new next fits n to may. gone_linked x t.near t.field t.old gone note new t.call fits n to may;
   follows = λ setup x h near f l start c kept t given n at behind known may to. absurd may;
-  unlinks = λ setup x h c number near f old gone note new next call i generation m body given n to held behind in_range may. take_keeps setup x h c number near f old gone note new call i generation m body given n to held in_range may;
+  unlinks = λ setup x h t gone note new next i generation m body given n to held behind in_range may. take_keeps setup x h t.caller t.number t.near t.field t.old gone note new t.call i generation m body given n to held in_range may;
   hides = λ setup x h cells given hid. record { stands = (hiding_fits x cells hid given.1.0, hiding_told x h cells hid given.1.1); known = λ start k e. tt };
   shows = λ setup x h near f l start c target given n at seen late. shows given.1.0 given.1.1 n seen start;
   nothing = λ setup x updates start r. tt;

@@ -13,10 +13,10 @@ use Rattle.record_rule.specs.Laws.{NodeIs, relinked, marked_after, grown}
 use Rattle.record_rule.proofs.Lists.{one_at}
 use Rattle.list_facts.specs.Tellings.{ListTold}
 use Rattle.list_facts.proofs.Bodies.{link_with_link, clear_flags}
-use Rattle.list_facts.proofs.Nodes.{noted, index_held, link_is as node_link}
+use Rattle.list_facts.proofs.Nodes.{index_held, link_is as node_link}
 use Rattle.list_facts.proofs.Told.{told_moved, told_turned}
 use Rattle.one_key_facts.specs.OneKey.{empty, empty_marked, LeadsToKey, IsUnder, CellFits, OneKeyFits, MayTakeOut}
-use Rattle.one_key_facts.proofs.Cells.{root_there, recelled_as, linked_held, apart, fits_still, under_else, leads_key_else}
+use Rattle.one_key_facts.proofs.Cells.{noted, root_there, recelled_as, linked_held, apart, fits_still, under_else, leads_key_else}
 
 module _ {x : ShapeInput} (fits : OneKeyFits x) {s : ShapeFacts} {f key : ℕ} {old : LinkParts} (n : NodeIs s x.cells (at_root key) f old) (field : f ≡ 3) {gone : RefParts} (to : old.target ≡ Some gone) where
   pub was_root : At x.cells n.index (root n.generation n.body n.marked)

@@ -7,10 +7,10 @@ use Rattle.set_model.specs.declared.names.SetName.TheVariants.{Michael}
 use Rattle.set_model.specs.Keys.{contains}
 use Rattle.set_model.specs.Histories.{keys_of}
 use Rattle.row_words.specs.Refs.{RefParts, LinkParts, refer}
-use Rattle.row_words.specs.Packing.{packed_link, key_in}
+use Rattle.row_words.specs.Packing.{packed_link, key_in, kind_in}
 use Rattle.record_rule.specs.Inputs.{ShapeCell, hidden, root, linked, out, ShapeInput}
-use Rattle.record_rule.specs.Facts.{At, link_at, key_at, HasMark, clean, Near, at_root, at_held, Sight, ShapeFacts}
-use Rattle.list_facts.specs.Tellings.{ListTold}
+use Rattle.record_rule.specs.Facts.{At, word_in, link_at, key_at, HasMark, clean, Near, at_root, at_held, Sight, ShapeFacts}
+use Rattle.list_facts.specs.Tellings.{ListTold, list_leads, list_present}
 use Rattle.list_facts.specs.Steps.{list_settled, marked_with, IsNode}
 
 -- a link that leads nowhere, without a mark, and with one
@@ -30,11 +30,11 @@ LeadsToKey cells t k = (body : List ℕ) × (m : ℕ) × (0 < t.index) × At cel
 abbrev pub IsUnder : List ShapeCell → ℕ → RefParts → Type 0
 IsUnder cells n t = (generation m : ℕ) × (body : List ℕ) × At cells n (root generation body m) × (link_at body 3 ≡ clean t)
 
--- a root's link has no flags and leads to a record with the root's key, or nowhere; a linked record is the one behind the root of its key; the link of a record leads nowhere, and that of one that was taken out has the mark
+-- a root's link has no flags and leads to a record with the root's key, or nowhere; a linked record has a key of kind 0 and is the one behind the root of that key; the link of a record leads nowhere, and that of one that was taken out has the mark
 abbrev pub CellFits : List ShapeCell → ℕ → ShapeCell → Type 0
 CellFits cells i hidden = Unit {0}
 CellFits cells i (root generation body m) = ((link_at body 3).flags ≡ 0) × ((t : RefParts) → (link_at body 3).target ≡ Some t → LeadsToKey cells t i)
-CellFits cells i (linked generation body m) = ((link_at body 3).flags < 2) × ((link_at body 3).target ≡ None) × IsUnder cells (key_at body) (refer (i + 1) generation)
+CellFits cells i (linked generation body m) = ((link_at body 3).flags < 2) × ((link_at body 3).target ≡ None) × (kind_in (word_in body 4) ≡ 0) × IsUnder cells (key_at body) (refer (i + 1) generation)
 CellFits cells i (out generation body m n) = ((link_at body 3).flags ≡ 1) × ((link_at body 3).target ≡ None)
 
 pub record OneKeyFits (x : ShapeInput) : Type 0 where
@@ -82,6 +82,8 @@ one_key = record {
   name = Michael;
   formed = λ setup x. OneKeyFits x;
   told = λ setup x h. ListTold x h;
+  leads = list_leads;
+  present = list_present;
   knows = λ setup x updates start k. Unit {0};
   helped = ⊥;
   settled = list_settled;
