@@ -89,6 +89,14 @@ impl<S: Shape, R: Scheme, A: Allocator, P: Pool> Manager<S, R, A, P> {
         }
     }
 
+    /// How many roots it has, at least 1.
+    pub fn roots(&self) -> u32
+        ensures roots { result ≡ (setup_of self.now.table).roots }
+        ensures some { 0 < result }
+    {
+        self.table.roots()
+    }
+
     /// Closes the table. `callers` has every caller of this manager in order of number. Over all callers and
     /// shelves, as many records were freed as were reused, are free and are spent, and as many are in limbo as
     /// were retired and not freed.

@@ -1,0 +1,77 @@
+// The calls of a list, with the root that each key has.
+ghost use Rattle.std.specs.Prelude.{◌≤◌, All, IfSome};
+ghost use Rattle.record_table.specs.Handles.{IsPassOf};
+ghost use Rattle.record_table.specs.Closing.{AreAllPasses};
+ghost use Rattle.manager.specs.Callers.{IsResting};
+ghost use Rattle.manager.specs.Made.{passes_of};
+
+use alloc_bump::Bump;
+use manager::Caller;
+use michael_list::{MichaelList, MichaelShape};
+use pool::NoPool;
+use reclaim_none::NoReclaim;
+use set_model::{InsertAnswer, LookAnswer};
+
+/// A list without reclamation.
+pub type TestList = MichaelList<NoReclaim, Bump, NoPool>;
+
+/// One of its callers.
+pub type TestCaller = Caller<MichaelShape, NoReclaim>;
+
+/// Inserts the key.
+pub fn insert(list: &TestList, caller: &mut TestCaller, key: u64, budget: u32) -> InsertAnswer
+    requires of { IsPassOf list.now.manager.table caller.old.pass }
+    requires caller { IsResting (λ l v. Unit {0}) caller.old }
+    requires key { key ≤ 1099511627773 }
+    ensures of { IsPassOf list.now.manager.table caller.new.pass }
+    ensures caller { IsResting (λ l v. Unit {0}) caller.new }
+{
+    let root = (key % u64::from(list.roots())) as u32;
+    list.insert(caller, root, key, budget)
+}
+
+/// Removes the key.
+pub fn remove(list: &TestList, caller: &mut TestCaller, key: u64, budget: u32) -> LookAnswer
+    requires of { IsPassOf list.now.manager.table caller.old.pass }
+    requires caller { IsResting (λ l v. Unit {0}) caller.old }
+    requires key { key ≤ 1099511627773 }
+    ensures of { IsPassOf list.now.manager.table caller.new.pass }
+    ensures caller { IsResting (λ l v. Unit {0}) caller.new }
+{
+    let root = (key % u64::from(list.roots())) as u32;
+    list.remove(caller, root, key, budget)
+}
+
+/// Searches for the key.
+pub fn search(list: &TestList, caller: &mut TestCaller, key: u64, budget: u32) -> LookAnswer
+    requires of { IsPassOf list.now.manager.table caller.old.pass }
+    requires caller { IsResting (λ l v. Unit {0}) caller.old }
+    requires key { key ≤ 1099511627773 }
+    ensures of { IsPassOf list.now.manager.table caller.new.pass }
+    ensures caller { IsResting (λ l v. Unit {0}) caller.new }
+{
+    let root = (key % u64::from(list.roots())) as u32;
+    list.search(caller, root, key, budget)
+}
+
+/// The last of these callers, where there is one.
+pub fn last_caller(list: &TestList, callers: &mut Vec<TestCaller>) -> Option<TestCaller>
+    requires passes { AreAllPasses list.now.manager.table (passes_of callers.old.items) }
+    requires resting { All (IsResting (λ l v. Unit {0})) callers.old.items }
+    ensures of { IfSome result (λ caller. IsPassOf list.now.manager.table caller.pass) }
+    ensures caller { IfSome result (λ caller. IsResting (λ l v. Unit {0}) caller) }
+{
+    callers.pop()
+}
+
+/// The last two of these callers, where there are as many: the last but one first.
+pub fn last_two(list: &TestList, mut callers: Vec<TestCaller>) -> Option<(TestCaller, TestCaller)>
+    requires passes { AreAllPasses list.now.manager.table (passes_of callers.items) }
+    requires resting { All (IsResting (λ l v. Unit {0})) callers.items }
+    ensures of { IfSome result (λ pair. IsPassOf list.now.manager.table pair.0.pass × IsPassOf list.now.manager.table pair.1.pass) }
+    ensures callers { IfSome result (λ pair. IsResting (λ l v. Unit {0}) pair.0 × IsResting (λ l v. Unit {0}) pair.1) }
+{
+    let last = callers.pop()?;
+    let first = callers.pop()?;
+    Some((first, last))
+}

@@ -1,0 +1,58 @@
+-- Stretches of a guard's calls, one after another.
+use Rattle.std.proofs.Common.{◌≡◌, ℕ, ◌<◌, List, [], ◌∷◌, ◌++◌, sym, refl, ◌∙◌, subst}
+use Rattle.record_memory.specs.declared.books.Setup.{Setup}
+use Rattle.record_table.specs.Handles.{setup_of, view, same_start, same_then}
+use Rattle.record_table.specs.declared.passes.Pass.{Pass}
+use Rattle.reclaim_api.specs.Holds.{KeepsSome, KeepsHeld}
+use Rattle.reclaim_api.proofs.Keeping.{keeps_less}
+use Rattle.reclaim_api.specs.declared.scheme.Scheme.{Ghosts as OfScheme}
+use Rattle.alloc_api.specs.declared.Allocator.{Ghosts as OfAllocator}
+use Rattle.pool.specs.declared.Pool.{Ghosts as OfPool}
+use Rattle.record_pieces.specs.Events.{Event}
+use Rattle.record_pieces.specs.Trails.{Trail}
+use Rattle.record_pieces.proofs.Joins.{joins}
+use Rattle.manager.specs.declared.types.Guard.{Guard}
+use Rattle.manager.specs.Guards.{Did, DidAll, manner_of}
+use Rattle.michael_list.specs.Going.{IsSameGuard, GoesOn}
+use Rattle.michael_list.specs.Knowing.{IsHome}
+
+module _ {S R L A P : Type 0} {r : OfScheme R L} {a : OfAllocator A} {p : OfPool P} where
+  pub same_guard : (g : Guard S R A P L r a p) → IsSameGuard g g
+  same_guard g = record { manager = refl; caller = refl; pass = same_start g.caller.now.pass }
+
+  pub same_guards : (f g h : Guard S R A P L r a p) → IsSameGuard f g → IsSameGuard g h → IsSameGuard f h
+  same_guards f g h x y = record {
+    manager = y.manager ∙ x.manager;
+    caller = y.caller ∙ x.caller;
+    pass = same_then f.caller.now.pass g.caller.now.pass h.caller.now.pass x.pass y.pass;
+  }
+
+  pub goes_nowhere : (g : Guard S R A P L r a p) → GoesOn g g
+  goes_nowhere g = record { same = same_guard g; answers = record { answered = refl; front = refl }; owns = λ own is. is }
+
+  pub goes_then : (f g h : Guard S R A P L r a p) → GoesOn f g → GoesOn g h → GoesOn f h
+  goes_then f g h x y = record {
+    same = same_guards f g h x.same y.same;
+    answers = record { answered = y.answers.answered ∙ x.answers.answered; front = y.answers.front ∙ x.answers.front };
+    owns = λ own is. y.owns own (x.owns own is);
+  }
+
+  -- its table is the same one
+  pub home_then : (g h : Guard S R A P L r a p) (root key : ℕ) → IsSameGuard g h → IsHome (setup_of g.manager.now.table) root key → IsHome (setup_of h.manager.now.table) root key
+  home_then g h root key same home = subst (λ (k : Setup). IsHome k root key) (sym (λ k. setup_of (same.manager k).table)) home
+
+  pub root_there : (g : Guard S R A P L r a p) (root key : ℕ) → IsHome (setup_of g.manager.now.table) root key → root < (view g.caller.now.pass).setup.roots
+  root_there g root key home = subst (λ (k : Setup). root < k.roots) (sym g.of.setup) home.0
+
+  -- one event is a list of them
+  pub did_one : (g h : Guard S R A P L r a p) (e : Event) → Did g e h → DidAll g (e ∷ []) h
+  did_one g h e did = ((view h.caller.now.pass).own, did, refl)
+
+  -- and so are two lists
+  pub did_then : (f g h : Guard S R A P L r a p) (es fs : List Event) → g.manager.now ≡ f.manager.now → DidAll f es g → DidAll g fs h → DidAll f (es ++ fs) h
+  did_then f g h es fs same t u = joins (manner_of r a p) (setup_of f.manager.now.table) es fs (view f.caller.now.pass).own (view g.caller.now.pass).own (view h.caller.now.pass).own t
+      (subst (λ (k : Setup). Trail (manner_of r a p) k fs (view g.caller.now.pass).own (view h.caller.now.pass).own) (λ k. setup_of (same k).table) u)
+
+-- where all is kept, some is
+pub keeps_any : {S R : Type 0} (places : ℕ → Type 0) (words : ℕ → ℕ → Type 0) (p q : Pass S R) → KeepsHeld p q → KeepsSome places words p q
+keeps_any places words p q k = keeps_less (λ place. Unit {0}) places (λ place f. Unit {0}) words p q (λ place h. tt) (λ place f h. tt) k

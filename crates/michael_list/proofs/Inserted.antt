@@ -1,0 +1,78 @@
+-- What the steps of an insertion leave.
+use Rattle.std.proofs.Common.{◌≡◌, ◌≤◌, ◌+◌, ℕ, List, [], ◌∷◌, ◌++◌, append_assoc, Option, Some, None, Result, Ok, Err, MatchResult, true, false, sym, refl, ◌∙◌, subst, arith}
+use Rattle.set_model.specs.declared.calls.Call.TheVariants.{Insert}
+use Rattle.set_model.specs.declared.calls.InsertAnswer.{InsertAnswer}
+use Rattle.set_model.specs.declared.calls.InsertAnswer.TheVariants.{Done, Full, Again}
+use Rattle.record_memory.specs.declared.books.View.{View}
+use Rattle.row_words.specs.Refs.{RefParts, LinkParts}
+use Rattle.record_table.specs.declared.passes.Pass.{Pass}
+use Rattle.record_table.specs.declared.nodes.Held.{Held}
+use Rattle.record_table.specs.declared.nodes.Node.{Node}
+use Rattle.record_table.specs.declared.nodes.Node.TheVariants.{At}
+use Rattle.record_table.specs.Handles.{view}
+use Rattle.alloc_api.specs.declared.NoRecord.{NoRecord}
+use Rattle.reclaim_api.specs.Holds.{KeepsHeld}
+use Rattle.reclaim_api.specs.declared.scheme.Scheme.{Ghosts as OfScheme}
+use Rattle.alloc_api.specs.declared.Allocator.{Ghosts as OfAllocator}
+use Rattle.pool.specs.declared.Pool.{Ghosts as OfPool}
+use Rattle.record_pieces.specs.Events.{Event, took, refused, placed}
+use Rattle.manager.specs.declared.types.Guard.{Guard}
+use Rattle.manager.specs.Callers.{AnswersNone}
+use Rattle.manager.specs.Guards.{Did, DidAll}
+use Rattle.michael_list.specs.declared.spots.Spot.TheVariants.{Present, Absent}
+use Rattle.michael_list.specs.Walks.{Finds}
+use Rattle.michael_list.specs.Pieces.{HasRecord, gets, has, back, links, Insertings, more, Inserts, adds, has_it, is_full, again}
+use Rattle.michael_list.specs.Knowing.{IsBeyond}
+use Rattle.michael_list.specs.Answers.{InsertTells}
+use Rattle.michael_list.proofs.Answering.{none_then, read_since, decided_between}
+use Rattle.michael_list.proofs.Going.{did_one}
+use Rattle.michael_list.proofs.Standing.{stands_held}
+
+-- a record that the call has from an earlier try
+pub has_own : (own : RefParts) (hand : Option RefParts) → hand ≡ Some own → HasRecord own hand []
+has_own own hand is = subst (λ (h : Option RefParts). HasRecord own h []) (sym is) has
+
+module _ {S R L A P : Type 0} {r : OfScheme R L} {a : OfAllocator A} {p : OfPool P} where
+  -- or a fresh one, or none
+  pub took_one : (f h : Guard S R A P L r a p) (hand : Option RefParts) (got : Result RefParts NoRecord) → hand ≡ None → MatchResult got (λ own. Did f (took own) h) (λ none. Did f (refused none.found) h)
+      → MatchResult got (λ own. (es : List Event) × HasRecord own hand es × DidAll f es h) (λ none. (hand ≡ None) × Did f (refused none.found) h)
+  took_one f h hand (Ok own) is did = (took own ∷ [], subst (λ (k : Option RefParts). HasRecord own k (took own ∷ [])) (sym is) gets, did_one f h (took own) did)
+  took_one f h hand (Err none) is did = (is, did)
+
+-- the next record has a greater key still, where all is kept
+pub beyond_held : {S R : Type 0} (p q : Pass S R) → (view q).setup ≡ (view p).setup → (root : ℕ) → KeepsHeld p q → (key : ℕ) (next : Option Held) → IsBeyond p root key next → IsBeyond q root key next
+beyond_held p q setup root keeps key None beyond = tt
+beyond_held p q setup root keeps key (Some at) beyond = let s = stands_held p q setup root keeps (At at) beyond.0 in (s.0, (let e = s.1 in let b = beyond.1 in omega arith))
+
+-- what a try did stands behind the tries before it
+behind_all : (ds fs gs hs : List Event) → ds ++ fs ++ gs ++ hs ≡ ds ++ (fs ++ (gs ++ hs))
+behind_all ds fs gs hs = append_assoc (ds ++ fs) gs hs ∙ append_assoc ds fs (gs ++ hs)
+
+-- what comes of a try, behind the tries before it
+module _ (root key budget before after made : ℕ) (sum : after ≡ before + made) where
+  pub no_hops_left : (hand : Option RefParts) (ds fs : List Event) → after ≡ budget → Insertings root key before hand ds → Finds key root made None fs → Inserts root key budget (Again after) (ds ++ (fs ++ back hand))
+  no_hops_left hand ds fs full tries finds = subst (λ (z : ℕ × List Event). Inserts root key budget (Again z.0) z.1) (λ k. (sym full k, append_assoc ds fs (back hand) k)) (again tries finds (sym sum ∙ full))
+
+  pub key_was_there : (hand : Option RefParts) (node : Node) (at : Held) (link : LinkParts) (ds fs : List Event) → after ≤ budget → Insertings root key before hand ds → Finds key root made (Some (Present node at link)) fs
+      → Inserts root key budget (Done false) (ds ++ (fs ++ (back hand ++ placed (Insert key) false ∷ [])))
+  key_was_there hand node at link ds fs within tries finds =
+      subst (Inserts root key budget (Done false)) (behind_all ds fs (back hand) (placed (Insert key) false ∷ [])) (has_it tries finds (let e = sum in let w = within in omega arith))
+
+  module _ (hand : Option RefParts) (node : Node) (next : Option Held) (ds fs : List Event) (within : after ≤ budget) (tries : Insertings root key before hand ds) (finds : Finds key root made (Some (Absent node next)) fs) where
+    pub none_was_left : (found : ℕ) → hand ≡ None → Inserts root key budget (Full found) (ds ++ (fs ++ refused found ∷ []))
+    none_was_left found is =
+        subst (Inserts root key budget (Full found)) (append_assoc ds fs (refused found ∷ [])) (is_full (subst (λ (h : Option RefParts). Insertings root key before h ds) is tries) finds (let e = sum in let w = within in omega arith))
+
+    pub was_linked : (own : RefParts) (gs : List Event) → HasRecord own hand gs → Inserts root key budget (Done true) (ds ++ (fs ++ (gs ++ links key node next own None)))
+    was_linked own gs record_is = subst (Inserts root key budget (Done true)) (behind_all ds fs gs (links key node next own None)) (adds tries finds record_is (let e = sum in let w = within in omega arith))
+
+    pub was_refused : (own left : RefParts) (gs : List Event) (other : LinkParts) → left ≡ own → HasRecord own hand gs → Insertings root key after (Some left) (ds ++ (fs ++ (gs ++ links key node next own (Some other))))
+    was_refused own left gs other same record_is =
+        subst (λ (z : ℕ × RefParts × List Event). Insertings root key z.0 (Some z.1) z.2) (λ k. (sym sum k, sym same k, behind_all ds fs gs (links key node next own (Some other)) k)) (more other tries finds record_is)
+
+-- tries that answer none may come before the one that is answered
+pub insertion_since : (u v w : View) (key : ℕ) (answer : InsertAnswer) → v.own.caller ≡ u.own.caller → v.setup ≡ u.setup → AnswersNone u v → InsertTells key answer v w → InsertTells key answer u w
+insertion_since u v w key (Done true) same setup none tells = decided_between u v w w (Insert key) same none tells (record { answered = refl; front = refl })
+insertion_since u v w key (Done false) same setup none tells = read_since u v w (Insert key) false setup none tells
+insertion_since u v w key (Full found) same setup none tells = none_then u v w none tells
+insertion_since u v w key (Again hops) same setup none tells = none_then u v w none tells

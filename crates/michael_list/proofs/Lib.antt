@@ -1,0 +1,12 @@
+mod Standing
+mod Reached
+mod Loaded
+mod Placed
+mod Filling
+mod Going
+mod Looking
+mod Steps
+mod Answering
+mod Inserted
+mod Marking
+mod Whole

@@ -1,0 +1,23 @@
+-- What the two loads of a record that a hop reached show, and what follows.
+use Rattle.std.proofs.Common.{◌≡◌, ℕ, ◌+◌, ◌<◌, [], ◌∷◌, ◌++◌, List, Some, None, sym, refl, ap, ◌∙◌, subst, arith}
+use Rattle.row_words.specs.Refs.{LinkParts}
+use Rattle.record_memory.specs.declared.books.View.{View}
+use Rattle.record_table.specs.declared.nodes.Held.{Held}
+use Rattle.record_table.specs.declared.nodes.Node.{Node}
+use Rattle.record_table.specs.declared.nodes.Node.TheVariants.{At}
+use Rattle.reclaim_api.specs.declared.scheme.Scheme.{Ghosts as OfScheme}
+use Rattle.alloc_api.specs.declared.Allocator.{Ghosts as OfAllocator}
+use Rattle.pool.specs.declared.Pool.{Ghosts as OfPool}
+use Rattle.record_pieces.specs.Events.{Event, keyed, looked}
+use Rattle.manager.specs.declared.types.Guard.{Guard}
+use Rattle.manager.specs.Guards.{Did, DidAll}
+use Rattle.michael_list.specs.Walks.{loads}
+use Rattle.michael_list.proofs.Going.{did_one, did_then}
+
+module _ {S R L A P : Type 0} {r : OfScheme R L} {a : OfAllocator A} {p : OfPool P} (f g h : Guard S R A P L r a p) (at : Held) (found : ℕ) (link : LinkParts) (same : g.manager.now ≡ f.manager.now) (key : Did f (keyed at.target found) g) (look : Did g (looked (At at) 3 link) h) where
+  pub did_loads : DidAll f (loads at found link) h
+  did_loads = did_then f g h (keyed at.target found ∷ []) (looked (At at) 3 link ∷ []) same (did_one f g (keyed at.target found) key) (did_one g h (looked (At at) 3 link) look)
+
+  -- and more behind them
+  pub did_more : (i : Guard S R A P L r a p) (es : List Event) → h.manager.now ≡ f.manager.now → DidAll h es i → DidAll f (loads at found link ++ es) i
+  did_more i es all t = did_then f h i (loads at found link) es all did_loads t

@@ -1,0 +1,95 @@
+-- What a walker knows of a node and of its key, after calls that keep it.
+use Rattle.std.proofs.Common.{◌≡◌, ◌≢◌, ◌⊎◌, inl, ℕ, ◌+◌, ◌%◌, ◌<◌, Bool, false, Some, None, sym, refl, ap, ◌∙◌, subst, arith}
+use Rattle.record_memory.specs.declared.books.Setup.{Setup}
+use Rattle.record_memory.specs.declared.books.Note.{Note}
+use Rattle.set_model.specs.declared.calls.Update.{Update}
+use Rattle.row_words.specs.Packing.{key_in}
+use Rattle.record_rule.specs.Facts.{At as Stands}
+use Rattle.record_rule.specs.World.{StartsWith}
+use Rattle.record_rule.specs.Links.{note_in}
+use Rattle.record_rule.proofs.Lists.{get_at}
+use Rattle.record_rule.proofs.Rebuilt.{starts_then}
+use Rattle.record_table.specs.declared.passes.Pass.{Pass}
+use Rattle.record_table.specs.declared.nodes.Held.{Held}
+use Rattle.record_table.specs.declared.nodes.Node.{Node}
+use Rattle.record_table.specs.declared.nodes.Node.TheVariants.{Root, At}
+use Rattle.record_table.specs.Handles.{view}
+use Rattle.record_table.specs.Nodes.{origin}
+use Rattle.list_facts.specs.Steps.{key_in_note, key_noted}
+use Rattle.reclaim_api.specs.Holds.{KeepsSome, KeepsHeld, KeepsButLink, IsElsewhere}
+use Rattle.manager.specs.Callers.{AnswersNone}
+use Rattle.michael_list.specs.Knowing.{rank, StandsAt, StandsBefore, HasSeenKey, HasReachedNext}
+
+-- the key of a note is that of its second word
+pub key_known : (note : Note) (n : ℕ) → Stands note.words 1 (Some n) → key_noted note ≡ key_in n
+key_known note n at = ap key_in_note (get_at note.words 1 (Some n) None at)
+
+-- what is held there is kept, with its key
+abbrev pub Covers : (ℕ → Type 0) → (ℕ → ℕ → Type 0) → Node → Type 0
+Covers places words (Root n) = Unit {0}
+Covers places words (At at) = places at.place × words at.place 1
+
+module _ {S R : Type 0} (places : ℕ → Type 0) (words : ℕ → ℕ → Type 0) (p q : Pass S R) (setup : (view q).setup ≡ (view p).setup) (keeps : KeepsSome places words p q) where
+  same_key : (at : Held) → words at.place 1 → (n : ℕ) → Stands (note_in (view p).own.notes at.place).words 1 (Some n) → key_noted (note_in (view q).own.notes at.place) ≡ key_noted (note_in (view p).own.notes at.place)
+  same_key at kept n noted = key_known (note_in (view q).own.notes at.place) n (keeps.notes at.place 1 n kept noted) ∙ sym (key_known (note_in (view p).own.notes at.place) n noted)
+
+  -- it stands there still, at its rank
+  pub stands_still : (root : ℕ) (node : Node) → Covers places words node → StandsAt p root node → StandsAt q root node × (rank q node ≡ rank p node)
+  stands_still root (Root n) covers h = (record {
+    there = subst (λ (k : Setup). n < k.roots) (sym setup) h.there;
+    keyed = tt;
+    home = h.home;
+    long = tt;
+  }, refl)
+  stands_still root (At at) covers h = let same = same_key at covers.1 h.keyed.0 h.keyed.1 in (record {
+    there = keeps.holds at covers.0 h.there;
+    keyed = (h.keyed.0, keeps.notes at.place 1 h.keyed.0 covers.1 h.keyed.1);
+    home = ap (λ (k : Setup). key_noted (note_in (view q).own.notes at.place) % k.roots) setup ∙ ap (λ k. k % (view p).setup.roots) same ∙ h.home;
+    long = keeps.long at.place covers.0 ∙ h.long;
+  }, ap (λ k. k + 1) same)
+
+  -- what was seen of a key is so still
+  pub seen_still : AnswersNone (view p) (view q) → (key : ℕ) (b : Bool) → HasSeenKey p key b → HasSeenKey q key b
+  seen_still none key b h = record {
+    set_is = ap (λ (k : Setup). k.set) setup ∙ h.set_is;
+    updates = h.updates;
+    seen = starts_then h.updates (view p).seen_updates (view q).seen_updates h.seen keeps.noted;
+    front = subst (StartsWith h.updates) (sym none.front) h.front;
+    started = (keeps.goes_on h.started).0;
+    since_start = let e = (keeps.goes_on h.started).1 in let l = h.since_start in omega arith;
+    answer = h.answer;
+  }
+
+module _ {S R : Type 0} (p q : Pass S R) (setup : (view q).setup ≡ (view p).setup) (root : ℕ) where
+  module _ (keeps : KeepsHeld p q) where
+    covers_all : (node : Node) → Covers (λ place. Unit {0}) (λ place f. Unit {0}) node
+    covers_all (Root n) = tt
+    covers_all (At at) = (tt, tt)
+
+    -- where all is kept
+    pub stands_held : (node : Node) → StandsAt p root node → StandsAt q root node × (rank q node ≡ rank p node)
+    stands_held node h = stands_still (λ place. Unit {0}) (λ place f. Unit {0}) p q setup keeps root node (covers_all node) h
+
+    pub before_held : (key : ℕ) (node : Node) → StandsBefore p root key node → StandsBefore q root key node
+    before_held key node h = let s = stands_held node h.stands in record { stands = s.0; below = let e = s.1 in let b = h.below in omega arith }
+
+    pub seen_held : AnswersNone (view p) (view q) → (key : ℕ) (b : Bool) → HasSeenKey p key b → HasSeenKey q key b
+    seen_held none key b h = seen_still (λ place. Unit {0}) (λ place f. Unit {0}) p q setup keeps none key b h
+
+    -- what was reached is the next record still
+    pub reached_still : AnswersNone (view p) (view q) → (key : ℕ) (before : Node) (at : Held) → HasReachedNext p root key before at → HasReachedNext q root key before at
+    reached_still none key before at h = let a = stands_held before h.before_it.stands in let b = stands_held (At at) h.stands in record {
+      before_it = before_held key before h.before_it;
+      else = h.else;
+      stands = b.0;
+      rises = let e = a.1 in let f = b.1 in let r = h.rises in omega arith;
+      gap = λ above. seen_held none key false (h.gap (let f = b.1 in omega (arith, above)));
+    }
+
+  -- and where a link was left anew
+  pub stands_relinked : (o : Node) → KeepsButLink (origin o) p q → (node : Node) → StandsAt p root node → StandsAt q root node × (rank q node ≡ rank p node)
+  stands_relinked o keeps node h = stands_still (λ place. Unit {0}) (λ place f. (f ≢ 0) ⊎ IsElsewhere (origin o) place) p q setup keeps root node (covers node) h
+    where
+      covers : (n : Node) → Covers (λ place. Unit {0}) (λ place f. (f ≢ 0) ⊎ IsElsewhere (origin o) place) n
+      covers (Root n) = tt
+      covers (At at) = (tt, inl (omega arith))

@@ -1,0 +1,56 @@
+use Rattle.std.proofs.Common.{◌≡◌, ℕ, ◌%◌, [], ◌∷◌, Option, Some, sym, ap, ◌∙◌, subst, arith}
+use Rattle.set_model.specs.declared.calls.Call.TheVariants.{Insert}
+use Rattle.row_words.specs.Refs.{RefParts, LinkParts}
+use Rattle.row_words.specs.Packing.{packed_number, packed_ref}
+use Rattle.row_words.proofs.Packed.{packed_ref_fits}
+use Rattle.record_rule.specs.Kinds.{stored}
+use Rattle.record_rule.specs.HandingOut.{HasOwn}
+use Rattle.record_table.specs.Handles.{setup_of, view}
+use Rattle.record_pieces.specs.Events.{Event, stored_own, published}
+use Rattle.reclaim_api.proofs.Keeping.{held_then}
+use Rattle.manager.specs.Guards.{Did}
+use Rattle.michael_list.specs.Pieces.{target_of}
+use Rattle.michael_list.proofs.Going.{did_one, did_then}
+use Rattle.michael_list.proofs.Standing.{before_held}
+use Rattle.michael_list.proofs.Filling.{may_link}
+use Rattle.michael_list.proofs.Inserted.{beyond_held}
+use Rattle.michael_list.proofs.inserting.link_record.Goals as goal
+
+pub store_own-requires-2-clause-payload : goal.store_own-requires-2-clause-payload
+store_own-requires-2-clause-payload g c = let fits = packed_ref_fits c.target_of.result c.pack_ref.ensures.in_range in let is = c.pack_ref.ensures.number in omega arith
+
+pub publish-requires-clause-allowed : goal.publish-requires-clause-allowed
+publish-requires-clause-allowed g c =
+    let p = c.args.guard.now.caller.now.pass in let q = c.store_own.new.self.caller.now.pass in let s = c.store_own-2.new.self.caller.now.pass in
+    let first = c.store_own.ensures in let second = c.store_own-2.ensures in
+    let own_is : c.store_own-2.new.own ≡ c.args.own = second.record ∙ first.record in
+    let setup : (view s).setup ≡ (view p).setup = second.pass.setup ∙ first.pass.setup in
+    let keeps = held_then p q s first.keeps second.keeps in
+    let manager : c.store_own-2.new.self.manager.now ≡ c.args.guard.now.manager.now = second.same_reference.1 ∙ first.same_reference.1 in
+    let roots : c.args.key % (setup_of c.store_own-2.new.self.manager.now.table).roots ≡ c.args.key % (setup_of c.args.guard.now.manager.now.table).roots = (λ k. c.args.key % (setup_of (manager k).table).roots) in
+    let payload : c.pack_ref.result ≡ packed_ref (target_of c.args.next) = c.pack_ref.ensures.number ∙ ap packed_ref c.target_of.ensures in
+    let step = subst (λ (z : RefParts × ℕ). view s ≡ stored (view q) z.0.index 3 (packed_number z.0.generation z.1)) (λ k. (first.record k, payload k)) second.step in
+    let before = before_held p s setup c.args.root keeps c.args.key c.args.before c.requires.before in
+    let next = beyond_held p s setup c.args.root keeps c.args.key c.args.next c.requires.next in
+    let expected : c.to-expected.result ≡ record { flags = 0; target = target_of c.args.next } = c.to-expected.ensures.link ∙ ap (λ (t : Option RefParts). record { flags = 0; target = t }) c.target_of-2.ensures in
+    let may = may_link s c.args.root c.args.key c.args.before c.args.next (setup_of c.store_own-2.new.self.manager.now.table) c.args.own (view p) (view q) c.to-expected.result
+    c.store_own-2.new.self.of.setup (roots ∙ c.requires.home.1) c.requires.key before next c.requires.own first.step step expected in
+    (may.0, may.1, subst (λ (own : RefParts). HasOwn (view s) own may.0) (sym own_is) may.2, may.3, may.4)
+
+pub returns-in-Err-clause-did : goal.returns-in-Err-clause-did
+returns-in-Err-clause-did g c =
+    let f = c.args.guard.now in let i = c.store_own.new.self in let j = c.store_own-2.new.self in let h = c.publish.new.self in
+    let other = c.in-Err.field-0-1.link in let first = c.store_own.ensures in let second = c.store_own-2.ensures in
+    let link : LinkParts = record { flags = 0; target = target_of c.args.next } in
+    let key_stored : Event = stored_own c.args.own 4 c.args.key in
+    let link_stored : Event = stored_own c.args.own 3 (packed_ref (target_of c.args.next)) in
+    let not_linked : Event = published c.args.before 3 link c.args.own (Some (Insert c.args.key)) (Some other) in
+    let own_is : c.store_own-2.new.own ≡ c.args.own = second.record ∙ first.record in
+    let payload : c.pack_ref.result ≡ packed_ref (target_of c.args.next) = c.pack_ref.ensures.number ∙ ap packed_ref c.target_of.ensures in
+    let expected : c.to-expected.result ≡ link = c.to-expected.ensures.link ∙ ap (λ (t : Option RefParts). record { flags = 0; target = t }) c.target_of-2.ensures in
+    let did_second = subst (λ (z : RefParts × ℕ). Did i (stored_own z.0 3 z.1) j) (λ k. (first.record k, payload k)) second.did in
+    let did_third = subst (λ (z : LinkParts × RefParts). Did j (published c.args.before 3 z.0 z.1 (Some (Insert c.args.key)) (Some other)) h) (λ k. (expected k, own_is k)) c.in-Err.ensures.did in (
+      other,
+      did_then f i h (key_stored ∷ []) (link_stored ∷ not_linked ∷ []) first.same_reference.1 (did_one f i key_stored first.did)
+          (did_then i j h (link_stored ∷ []) (not_linked ∷ []) second.same_reference.1 (did_one i j link_stored did_second) (did_one j h not_linked did_third)),
+    )

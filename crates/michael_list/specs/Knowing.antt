@@ -1,0 +1,100 @@
+-- What the walker of a list knows of the node at which it is, and of what it saw of the key.
+use Rattle.std.specs.Prelude.{◌≡◌, ℕ, ◌+◌, ◌%◌, ◌<◌, ◌≤◌, List, length, Bool, true, false, Option, Some, None, Result, Ok, Err}
+use Rattle.set_model.specs.declared.calls.Update.{Update}
+use Rattle.set_model.specs.declared.names.SetName.TheVariants.{Michael}
+use Rattle.set_model.specs.Keys.{contains}
+use Rattle.set_model.specs.Histories.{keys_of}
+use Rattle.record_memory.specs.declared.books.Setup.{Setup}
+use Rattle.row_words.specs.Refs.{LinkParts}
+use Rattle.row_words.specs.Packing.{packed_link, IsLink}
+use Rattle.record_rule.specs.Facts.{At as Stands, Near}
+use Rattle.record_rule.specs.World.{StartsWith}
+use Rattle.record_rule.specs.Links.{note_in, near_of}
+use Rattle.record_table.specs.declared.passes.Pass.{Pass}
+use Rattle.record_table.specs.declared.nodes.Held.{Held}
+use Rattle.record_table.specs.declared.nodes.Node.{Node}
+use Rattle.record_table.specs.declared.nodes.Node.TheVariants.{Root, At}
+use Rattle.record_table.specs.Handles.{view}
+use Rattle.record_table.specs.Nodes.{origin, HoldsNode, HasStarted}
+use Rattle.reclaim_api.specs.Holds.{IsElsewhere}
+use Rattle.list_facts.specs.Steps.{rank_near, home_near, marked_with, IsKeyed}
+use Rattle.michael_list.specs.declared.spots.Spot.{Spot}
+use Rattle.michael_list.specs.declared.spots.Spot.TheVariants.{Present, Absent}
+use Rattle.michael_list.specs.declared.spots.Landing.{Landing}
+use Rattle.michael_list.specs.declared.spots.Landing.TheVariants.{On, Stays, Restarts, Found}
+
+-- the list of this root has the key, if any list has
+abbrev pub IsHome : Setup → ℕ → ℕ → Type 0
+IsHome setup root key = (root < setup.roots) × (key % setup.roots ≡ root)
+
+-- from which node the next hop goes, or where the walk ended
+abbrev pub IsNext : ℕ → Node → Landing → Result Node Spot → Type 0
+IsNext root before (On at found) next = next ≡ Ok (At at)
+IsNext root before Stays next = next ≡ Ok before
+IsNext root before Restarts next = next ≡ Ok (Root root)
+IsNext root before (Found spot) next = next ≡ Err spot
+
+module _ {S R : Type 0} where
+  -- what the pass knows of the node
+  abbrev pub near : Pass S R → Node → Near
+  near p node = near_of (view p) (origin node)
+
+  -- its rank in its list: 0 for the root, and else the successor of its key
+  abbrev pub rank : Pass S R → Node → ℕ
+  rank p node = rank_near (near p node)
+
+  -- a note of a held record has all its words, known or not
+  abbrev pub IsLong : Pass S R → Node → Type 0
+  IsLong p (Root n) = Unit {0}
+  IsLong p (At at) = length (note_in (view p).own.notes at.place).words ≡ 5
+
+  -- it stands at the root, or at a record of its list that it holds, whose key it knows
+  pub record StandsAt (p : Pass S R) (root : ℕ) (node : Node) : Type 0 where
+    pub there : HoldsNode p node
+    pub keyed : IsKeyed (near p node)
+    pub home : home_near (view p).setup (near p node) ≡ root
+    pub long : IsLong p node
+
+  -- the key is in the set, or isn't, after some updates that it has seen, no fewer than when its guard started
+  pub record HasSeenKey (p : Pass S R) (key : ℕ) (present : Bool) : Type 0 where
+    pub set_is : (view p).setup.set ≡ Michael
+    pub updates : List Update
+    pub seen : StartsWith (view p).seen_updates updates
+    pub front : StartsWith updates (view p).front
+    pub started : HasStarted p
+    pub since_start : (view p).own.guard.start_updates ≤ length updates
+    pub answer : contains (keys_of updates) key ≡ present
+
+  -- the link of what it holds there is known to be this one with a mark, which no step ends
+  abbrev pub IsMarkNoted : Pass S R → Held → LinkParts → Type 0
+  IsMarkNoted p at link = (generation : ℕ) × Stands (note_in (view p).own.notes at.place).words 0 (Some (packed_link generation (marked_with link)))
+
+  -- it stands before the key
+  pub record StandsBefore (p : Pass S R) (root key : ℕ) (before : Node) : Type 0 where
+    pub stands : StandsAt p root before
+    pub below : rank p before < key + 1
+
+  -- and has reached the next record of the list; where that has a greater key, this one was seen to be absent
+  pub record HasReachedNext (p : Pass S R) (root key : ℕ) (before : Node) (at : Held) : Type 0 where
+    pub before_it : StandsBefore p root key before
+    pub else : IsElsewhere (origin before) at.place
+    pub stands : StandsAt p root (At at)
+    pub rises : rank p before < rank p (At at)
+    pub gap : key + 1 < rank p (At at) → HasSeenKey p key false
+
+  -- the next record, where there is one, has a greater key
+  abbrev pub IsBeyond : Pass S R → ℕ → ℕ → Option Held → Type 0
+  IsBeyond p root key None = Unit {0}
+  IsBeyond p root key (Some next) = StandsAt p root (At next) × (key + 1 < rank p (At next))
+
+  -- where a walk for the key ended, and what it saw of the key there
+  abbrev pub IsSpot : Pass S R → ℕ → ℕ → Spot → Type 0
+  IsSpot p root key (Present before at link) = StandsBefore p root key before × StandsAt p root (At at) × (rank p (At at) ≡ key + 1) × (link.flags ≡ 0) × IsLink link × HasSeenKey p key true
+  IsSpot p root key (Absent before next) = StandsBefore p root key before × IsBeyond p root key next × HasSeenKey p key false
+
+  -- where a hop from a node left it, which had this rank
+  abbrev pub IsLanding : Pass S R → ℕ → ℕ → Node → ℕ → Landing → Type 0
+  IsLanding p root key from low (On at found) = StandsBefore p root key (At at) × (rank p (At at) ≡ found + 1) × (low < found + 1)
+  IsLanding p root key from low Stays = StandsBefore p root key from × (rank p from ≡ low)
+  IsLanding p root key from low Restarts = Unit {0}
+  IsLanding p root key from low (Found spot) = IsSpot p root key spot

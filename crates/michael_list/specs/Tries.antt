@@ -1,0 +1,25 @@
+-- What one try of an insertion leaves.
+use Rattle.std.specs.Prelude.{◌≡◌, ℕ, ◌<◌, List, Option, Some, MatchOption}
+use Rattle.record_memory.specs.declared.books.View.{View}
+use Rattle.row_words.specs.Refs.{RefParts}
+use Rattle.record_rule.specs.HandingOut.{IsOwnOf}
+use Rattle.record_pieces.specs.Events.{Event}
+use Rattle.manager.specs.Callers.{AnswersNone}
+use Rattle.michael_list.specs.declared.inserting.Tried.{Tried}
+use Rattle.michael_list.specs.declared.inserting.Tried.TheVariants.{Answered, Refused}
+use Rattle.michael_list.specs.Pieces.{Insertings, Inserts}
+use Rattle.michael_list.specs.Answers.{InsertTells}
+
+-- the record that the call has from an earlier try is its own
+abbrev pub OwnsHand : View → Option RefParts → Type 0
+OwnsHand v hand = MatchOption hand (Unit {0}) (λ own. IsOwnOf v own)
+
+-- it was answered, or made a hop and leaves the next one its record
+abbrev pub TriedTells : ℕ → ℕ → ℕ → Tried → View → View → Type 0
+TriedTells key before after (Answered answer) v w = InsertTells key answer v w
+TriedTells key before after (Refused own) v w = (before < after) × AnswersNone v w × IsOwnOf w own
+
+-- with the tries before it, after so many hops
+abbrev pub TriedDoes : ℕ → ℕ → ℕ → ℕ → List Event → Tried → Type 0
+TriedDoes root key budget hops es (Answered answer) = Inserts root key budget answer es
+TriedDoes root key budget hops es (Refused own) = Insertings root key hops (Some own) es

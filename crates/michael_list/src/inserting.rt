@@ -1,0 +1,184 @@
+// An insertion, within a guard.
+ghost use Rattle.std.specs.Prelude.{◌≡◌, ◌<◌, ◌≤◌, ◌+◌, ◌^◌, ◌++◌, ℕ, List, Option, Some, None, MatchOption, MatchResult, IfOk};
+ghost use Rattle.set_model.specs.declared.calls.Call.TheVariants.{Insert};
+ghost use Rattle.row_words.specs.Refs.{RefParts, LinkParts};
+ghost use Rattle.record_rule.specs.HandingOut.{IsOwnOf};
+ghost use Rattle.record_table.specs.Handles.{setup_of, view};
+ghost use Rattle.record_pieces.specs.Events.{Event, refused};
+ghost use Rattle.reclaim_api.specs.Holds.{KeepsHeld};
+ghost use Rattle.manager.specs.Callers.{AnswersNone};
+ghost use Rattle.manager.specs.Guards.{IsAtWork, Did, DidAll};
+ghost use Rattle.michael_list.specs.Pieces.{target_of, links, back, HasRecord, Insertings, Inserts};
+ghost use Rattle.michael_list.specs.Going.{IsSameGuard, GoesOn};
+ghost use Rattle.michael_list.specs.Knowing.{IsHome, StandsBefore, IsBeyond};
+ghost use Rattle.michael_list.specs.Answers.{Decided, InsertTells};
+ghost use Rattle.michael_list.specs.Tries.{OwnsHand, TriedTells, TriedDoes};
+
+use crate::shape::MichaelShape;
+use crate::spots::Spot;
+use crate::walking::find;
+use alloc_api::{Allocator, NoRecord};
+use manager::Guard;
+use pool::Pool;
+use reclaim_api::Scheme;
+use record_memory::{KEY, LINK};
+use record_table::{Held, Node, Own};
+use row_words::{Link, Ref, pack_ref};
+use set_model::{Call, InsertAnswer};
+
+/// What one try of an insertion came to.
+pub enum Tried {
+    /// An answer.
+    Answered(InsertAnswer),
+    /// The record that the next try has, since a word had changed.
+    Refused(Own),
+}
+
+// The record that the call has from an earlier try, or a fresh one.
+fn take_record<'a, R: Scheme, A: Allocator, P: Pool>(
+    guard: &mut Guard<'a, MichaelShape, R, A, P>,
+    hand: Option<Own>,
+) -> Result<Own, NoRecord>
+    requires at_work { IsAtWork guard.old }
+    requires hand { OwnsHand (view guard.old.caller.now.pass) hand }
+    ensures at_work { IsAtWork guard.new }
+    ensures on { GoesOn guard.old guard.new }
+    ensures keeps { KeepsHeld guard.old.caller.now.pass guard.new.caller.now.pass }
+    ensures own { IfOk result (λ own. IsOwnOf (view guard.new.caller.now.pass) own) }
+    ensures did { MatchResult result
+        (λ own. (es : List Event) × HasRecord own hand es × DidAll guard.old es guard.new)
+        (λ none. (hand ≡ None) × Did guard.old (refused none.found) guard.new) }
+{
+    match hand {
+        Some(own) => Ok(own),
+        None => guard.fresh(),
+    }
+}
+
+// Gives a record back that the call has and doesn't need.
+fn give_back<'a, R: Scheme, A: Allocator, P: Pool>(
+    guard: &mut Guard<'a, MichaelShape, R, A, P>,
+    hand: Option<Own>,
+)
+    requires at_work { IsAtWork guard.old }
+    requires hand { OwnsHand (view guard.old.caller.now.pass) hand }
+    ensures at_work { IsAtWork guard.new }
+    ensures same { IsSameGuard guard.old guard.new }
+    ensures answers { AnswersNone (view guard.old.caller.now.pass) (view guard.new.caller.now.pass) }
+    ensures keeps { KeepsHeld guard.old.caller.now.pass guard.new.caller.now.pass }
+    ensures did { DidAll guard.old (back hand) guard.new }
+{
+    if let Some(own) = hand {
+        guard.give_back(own);
+    }
+}
+
+// The record that a walk found behind the key's place, if there is one.
+fn target_of(next: &Option<Held>) -> Option<Ref>
+    ensures { result ≡ target_of next.now }
+{
+    match next {
+        Some(at) => Some(at.target),
+        None => None,
+    }
+}
+
+// Fills the record and links it between a node and the next record, which decides the insertion. `Err`: the node's link
+// had changed.
+fn link_record<'a, R: Scheme, A: Allocator, P: Pool>(
+    guard: &mut Guard<'a, MichaelShape, R, A, P>,
+    root: u32,
+    key: u64,
+    before: Node,
+    next: Option<Held>,
+    mut own: Own,
+) -> Result<(), Own>
+    requires at_work { IsAtWork guard.old }
+    requires home { IsHome (setup_of guard.old.manager.now.table) root key }
+    requires key { key < 2 ^ 40 }
+    requires before { StandsBefore guard.old.caller.now.pass root key before }
+    requires next { IsBeyond guard.old.caller.now.pass root key next }
+    requires own { IsOwnOf (view guard.old.caller.now.pass) own }
+    ensures at_work { IsAtWork guard.new }
+    ensures same { IsSameGuard guard.old guard.new }
+    ensures tells { MatchResult result
+        (λ _. Decided (Insert key) (view guard.old.caller.now.pass) (view guard.new.caller.now.pass))
+        (λ again. (again ≡ own) × AnswersNone (view guard.old.caller.now.pass) (view guard.new.caller.now.pass) × IsOwnOf (view guard.new.caller.now.pass) own) }
+    ensures did { MatchResult result
+        (λ _. DidAll guard.old (links key before next own None) guard.new)
+        (λ _. (other : LinkParts) × DidAll guard.old (links key before next own (Some other)) guard.new) }
+{
+    guard.store_own(&mut own, KEY, key);
+    guard.store_own(&mut own, LINK, pack_ref(target_of(&next)));
+    let expected = Link::to(target_of(&next));
+    let decides = Some(Call::Insert(key));
+    match guard.publish(before, LINK, expected, own, decides) {
+        Ok(()) => Ok(()),
+        Err((own, _)) => Err(own),
+    }
+}
+
+// One try: a walk, and what comes of it.
+fn try_insert<'a, R: Scheme, A: Allocator, P: Pool>(
+    guard: &mut Guard<'a, MichaelShape, R, A, P>,
+    root: u32,
+    key: u64,
+    budget: u32,
+    hops: &mut u32,
+    hand: Option<Own>,
+) -> Tried
+    requires at_work { IsAtWork guard.old }
+    requires home { IsHome (setup_of guard.old.manager.now.table) root key }
+    requires key { key < 2 ^ 40 }
+    requires hops { hops.old ≤ budget }
+    requires hand { OwnsHand (view guard.old.caller.now.pass) hand }
+    ensures at_work { IsAtWork guard.new }
+    ensures same { IsSameGuard guard.old guard.new }
+    ensures hops { hops.new ≤ budget }
+    ensures tells { TriedTells key hops.old hops.new result (view guard.old.caller.now.pass) (view guard.new.caller.now.pass) }
+    ensures did { (es : List Event) × DidAll guard.old es guard.new × ((ds : List Event) → Insertings root key hops.old hand ds → TriedDoes root key budget hops.new (ds ++ es) result) }
+{
+    match find(guard, root, key, budget, hops) {
+        None => {
+            give_back(guard, hand);
+            Tried::Answered(InsertAnswer::Again { hops: *hops })
+        }
+        Some(Spot::Present { .. }) => {
+            give_back(guard, hand);
+            guard.place(Call::Insert(key), false);
+            Tried::Answered(InsertAnswer::Done(false))
+        }
+        Some(Spot::Absent { before, next }) => match take_record(guard, hand) {
+            Ok(own) => match link_record(guard, root, key, before, next, own) {
+                Ok(()) => Tried::Answered(InsertAnswer::Done(true)),
+                Err(own) => Tried::Refused(own),
+            },
+            Err(none) => Tried::Answered(InsertAnswer::Full { found: none.found }),
+        },
+    }
+}
+
+// Tries until one is answered.
+pub(crate) fn insert<'a, R: Scheme, A: Allocator, P: Pool>(
+    guard: &mut Guard<'a, MichaelShape, R, A, P>,
+    root: u32,
+    key: u64,
+    budget: u32,
+) -> InsertAnswer
+    requires at_work { IsAtWork guard.old }
+    requires home { IsHome (setup_of guard.old.manager.now.table) root key }
+    requires key { key < 2 ^ 40 }
+    ensures at_work { IsAtWork guard.new }
+    ensures same { IsSameGuard guard.old guard.new }
+    ensures tells { InsertTells key result (view guard.old.caller.now.pass) (view guard.new.caller.now.pass) }
+    ensures did { (es : List Event) × Inserts root key budget result es × DidAll guard.old es guard.new }
+{
+    let mut hops = 0;
+    let mut hand = None;
+    loop {
+        match try_insert(guard, root, key, budget, &mut hops, hand) {
+            Tried::Answered(answer) => return answer,
+            Tried::Refused(own) => hand = Some(own),
+        }
+    }
+}

@@ -1,0 +1,140 @@
+// A removal and a search, within a guard.
+ghost use Rattle.std.specs.Prelude.{◌≡◌, ◌<◌, ◌≤◌, ◌++◌, ℕ, List, Option, Some, None, MatchOption, MatchBool, ◌+◌};
+ghost use Rattle.set_model.specs.declared.calls.Call.TheVariants.{Remove};
+ghost use Rattle.row_words.specs.Refs.{LinkParts};
+ghost use Rattle.row_words.specs.Packing.{packed_link, IsLink};
+ghost use Rattle.record_rule.specs.Facts.{At as Stands};
+ghost use Rattle.record_rule.specs.Links.{note_in};
+ghost use Rattle.list_facts.specs.Steps.{marked_with};
+ghost use Rattle.record_table.specs.Handles.{setup_of, view};
+ghost use Rattle.record_table.specs.Nodes.{origin_held};
+ghost use Rattle.record_table.specs.declared.nodes.Node.TheVariants.{At};
+ghost use Rattle.record_pieces.specs.Events.{Event};
+ghost use Rattle.reclaim_api.specs.Holds.{KeepsButLink};
+ghost use Rattle.manager.specs.Callers.{AnswersNone};
+ghost use Rattle.manager.specs.Guards.{IsAtWork, DidAll};
+ghost use Rattle.michael_list.specs.Pieces.{marks, Removings, Removes, Searches};
+ghost use Rattle.michael_list.specs.Going.{IsSameGuard};
+ghost use Rattle.michael_list.specs.Knowing.{IsHome, StandsAt, rank};
+ghost use Rattle.michael_list.specs.Answers.{Decided, RemoveTells, SearchTells};
+
+use crate::shape::MichaelShape;
+use crate::spots::Spot;
+use crate::walking::{find, same_held, take_out};
+use alloc_api::Allocator;
+use manager::Guard;
+use pool::Pool;
+use reclaim_api::Scheme;
+use record_memory::LINK;
+use record_table::{Held, Node};
+use row_words::Link;
+use set_model::{Call, LookAnswer};
+
+// Marks the record with the key, which decides its removal. Its link may have changed.
+fn mark<'a, R: Scheme, A: Allocator, P: Pool>(
+    guard: &mut Guard<'a, MichaelShape, R, A, P>,
+    root: u32,
+    key: u64,
+    at: &Held,
+    link: Link,
+) -> bool
+    requires at_work { IsAtWork guard.old }
+    requires at { StandsAt guard.old.caller.now.pass root (At at.now) × (rank guard.old.caller.now.pass (At at.now) ≡ key + 1) }
+    requires link { (link.flags ≡ 0) × IsLink link }
+    ensures at_work { IsAtWork guard.new }
+    ensures same { IsSameGuard guard.old guard.new }
+    ensures keeps { KeepsButLink (origin_held at.now) guard.old.caller.now.pass guard.new.caller.now.pass }
+    ensures tells { MatchBool result
+        (Decided (Remove key) (view guard.old.caller.now.pass) (view guard.new.caller.now.pass) × ((generation : ℕ) × Stands (note_in (view guard.new.caller.now.pass).own.notes at.now.place).words 0 (Some (packed_link generation (marked_with link)))))
+        (AnswersNone (view guard.old.caller.now.pass) (view guard.new.caller.now.pass)) }
+    ensures did { MatchBool result (DidAll guard.old (marks key at.now link None) guard.new) ((other : LinkParts) × DidAll guard.old (marks key at.now link (Some other)) guard.new) }
+{
+    let decides = Some(Call::Remove(key));
+    match guard.exchange_link(Node::At(same_held(at)), LINK, link, link.marked(), decides) {
+        Ok(()) => true,
+        Err(_) => false,
+    }
+}
+
+// One try: a walk, and what comes of it. `None`: a word had changed.
+fn try_remove<'a, R: Scheme, A: Allocator, P: Pool>(
+    guard: &mut Guard<'a, MichaelShape, R, A, P>,
+    root: u32,
+    key: u64,
+    budget: u32,
+    hops: &mut u32,
+) -> Option<LookAnswer>
+    requires at_work { IsAtWork guard.old }
+    requires home { IsHome (setup_of guard.old.manager.now.table) root key }
+    requires hops { hops.old ≤ budget }
+    ensures at_work { IsAtWork guard.new }
+    ensures same { IsSameGuard guard.old guard.new }
+    ensures hops { hops.new ≤ budget }
+    ensures tells { MatchOption result ((hops.old < hops.new) × AnswersNone (view guard.old.caller.now.pass) (view guard.new.caller.now.pass)) (λ answer. RemoveTells key answer (view guard.old.caller.now.pass) (view guard.new.caller.now.pass)) }
+    ensures did { (es : List Event) × DidAll guard.old es guard.new × ((ds : List Event) → Removings root key hops.old ds → MatchOption result (Removings root key hops.new (ds ++ es)) (λ answer. Removes root key budget answer (ds ++ es))) }
+{
+    match find(guard, root, key, budget, hops) {
+        None => Some(LookAnswer::Again { hops: *hops }),
+        Some(Spot::Absent { .. }) => {
+            guard.place(Call::Remove(key), false);
+            Some(LookAnswer::Done(false))
+        }
+        Some(Spot::Present { before, at, link }) => {
+            if !mark(guard, root, key, &at, link) {
+                return None;
+            }
+            take_out(guard, &before, &at, link);
+            Some(LookAnswer::Done(true))
+        }
+    }
+}
+
+// Tries until one is answered.
+pub(crate) fn remove<'a, R: Scheme, A: Allocator, P: Pool>(
+    guard: &mut Guard<'a, MichaelShape, R, A, P>,
+    root: u32,
+    key: u64,
+    budget: u32,
+) -> LookAnswer
+    requires at_work { IsAtWork guard.old }
+    requires home { IsHome (setup_of guard.old.manager.now.table) root key }
+    ensures at_work { IsAtWork guard.new }
+    ensures same { IsSameGuard guard.old guard.new }
+    ensures tells { RemoveTells key result (view guard.old.caller.now.pass) (view guard.new.caller.now.pass) }
+    ensures did { (es : List Event) × Removes root key budget result es × DidAll guard.old es guard.new }
+{
+    let mut hops = 0;
+    'tries: loop {
+        if let Some(answer) = try_remove(guard, root, key, budget, &mut hops) {
+            return answer;
+        }
+    }
+}
+
+// One walk, and what it saw.
+pub(crate) fn search<'a, R: Scheme, A: Allocator, P: Pool>(
+    guard: &mut Guard<'a, MichaelShape, R, A, P>,
+    root: u32,
+    key: u64,
+    budget: u32,
+) -> LookAnswer
+    requires at_work { IsAtWork guard.old }
+    requires home { IsHome (setup_of guard.old.manager.now.table) root key }
+    ensures at_work { IsAtWork guard.new }
+    ensures same { IsSameGuard guard.old guard.new }
+    ensures tells { SearchTells key result (view guard.old.caller.now.pass) (view guard.new.caller.now.pass) }
+    ensures did { (es : List Event) × Searches root key budget result es × DidAll guard.old es guard.new }
+{
+    let mut hops = 0;
+    match find(guard, root, key, budget, &mut hops) {
+        None => LookAnswer::Again { hops },
+        Some(Spot::Present { .. }) => {
+            guard.place(Call::Search(key), true);
+            LookAnswer::Done(true)
+        }
+        Some(Spot::Absent { .. }) => {
+            guard.place(Call::Search(key), false);
+            LookAnswer::Done(false)
+        }
+    }
+}

@@ -1,0 +1,213 @@
+// A walk along a list, hop by hop.
+ghost use Rattle.std.specs.Prelude.{◌≡◌, ◌<◌, ◌≤◌, ◌+◌, ℕ, List, Option, Some, MatchOption, true};
+ghost use Rattle.record_rule.specs.Facts.{HasMark};
+ghost use Rattle.row_words.specs.Packing.{IsLink};
+ghost use Rattle.record_table.specs.Handles.{setup_of};
+ghost use Rattle.record_table.specs.Nodes.{origin, HoldsNode, HoldsThere};
+ghost use Rattle.record_table.specs.declared.nodes.Node.TheVariants.{At};
+ghost use Rattle.reclaim_api.specs.Holds.{KeepsButLink, IsElsewhere};
+ghost use Rattle.record_pieces.specs.Events.{Event};
+ghost use Rattle.manager.specs.Guards.{IsAtWork, DidAll};
+ghost use Rattle.michael_list.specs.Walks.{unmarked, loads, TakesOut, Looks, Hops, Finds};
+ghost use Rattle.michael_list.specs.Going.{GoesOn};
+ghost use Rattle.michael_list.specs.Knowing.{IsHome, StandsBefore, HasSeenKey, IsMarkNoted, HasReachedNext, IsLanding, IsNext, IsSpot, rank};
+
+use crate::shape::MichaelShape;
+use crate::spots::{Landing, Spot};
+use alloc_api::Allocator;
+use manager::Guard;
+use pool::Pool;
+use reclaim_api::{Holding, Scheme};
+use record_memory::LINK;
+use record_table::{Held, Node};
+use row_words::Link;
+
+// The place for what a node leads to: 0 or 1, whichever isn't the node's.
+fn place_behind(node: &Node) -> u8
+    ensures within { result < 2 }
+    ensures else_ { IsElsewhere (origin node.now) result }
+{
+    match node {
+        Node::Root(_) => 0,
+        Node::At(held) => {
+            if held.place == 0 {
+                1
+            } else {
+                0
+            }
+        }
+    }
+}
+
+// The same node and the same held record once more.
+pub(crate) fn same_node(node: &Node) -> Node
+    ensures { result ≡ node.now }
+{
+    match node {
+        Node::Root(number) => Node::Root(*number),
+        Node::At(held) => Node::At(same_held(held)),
+    }
+}
+
+pub(crate) fn same_held(held: &Held) -> Held
+    ensures { result ≡ held.now }
+{
+    Held {
+        place: held.place,
+        target: held.target,
+    }
+}
+
+// Takes a marked record out behind its predecessor, and retires it. Another caller may be first.
+pub(crate) fn take_out<'a, R: Scheme, A: Allocator, P: Pool>(
+    guard: &mut Guard<'a, MichaelShape, R, A, P>,
+    before: &Node,
+    gone: &Held,
+    link: Link,
+) -> bool
+    requires at_work { IsAtWork guard.old }
+    requires before { HoldsNode guard.old.caller.now.pass before.now }
+    requires gone { HoldsThere guard.old.caller.now.pass gone.now }
+    requires link { (link.flags ≡ 0) × IsLink link }
+    requires marked { IsMarkNoted guard.old.caller.now.pass gone.now link }
+    ensures at_work { IsAtWork guard.new }
+    ensures on { GoesOn guard.old guard.new }
+    ensures keeps { KeepsButLink (origin before.now) guard.old.caller.now.pass guard.new.caller.now.pass }
+    ensures did { (es : List Event) × TakesOut before.now gone.now link result es × DidAll guard.old es guard.new }
+{
+    match guard.unlink(same_node(before), LINK, same_held(gone), link) {
+        Ok(taken) => {
+            guard.retire(taken);
+            true
+        }
+        Err(_) => false,
+    }
+}
+
+// Loads the key and the link of a record that the hop from `before` reached.
+fn read<'a, R: Scheme, A: Allocator, P: Pool>(
+    guard: &mut Guard<'a, MichaelShape, R, A, P>,
+    root: u32,
+    before: &Node,
+    at: &Held,
+    key: u64,
+) -> (u64, Link)
+    requires at_work { IsAtWork guard.old }
+    requires reached { HasReachedNext guard.old.caller.now.pass root key before.now at.now }
+    ensures at_work { IsAtWork guard.new }
+    ensures on { GoesOn guard.old guard.new }
+    ensures reached { HasReachedNext guard.new.caller.now.pass root key before.now at.now }
+    ensures low { rank guard.new.caller.now.pass before.now ≡ rank guard.old.caller.now.pass before.now }
+    ensures key { rank guard.new.caller.now.pass (At at.now) ≡ result.0 + 1 }
+    ensures marked { HasMark result.1 → IsMarkNoted guard.new.caller.now.pass at.now (unmarked result.1) }
+    ensures clear { ¬ HasMark result.1 → (result.1.flags ≡ 0) × IsLink result.1 × (result.0 ≡ key → HasSeenKey guard.new.caller.now.pass key true) }
+    ensures did { DidAll guard.old (loads at.now result.0 result.1) guard.new }
+{
+    let found = guard.load_key(same_held(at));
+    let link = guard.load_link(Node::At(same_held(at)), LINK);
+    (found, link)
+}
+
+// Looks at a record that the hop from `before` reached, and goes where its key and its link tell.
+fn look<'a, R: Scheme, A: Allocator, P: Pool>(
+    guard: &mut Guard<'a, MichaelShape, R, A, P>,
+    root: u32,
+    before: Node,
+    at: Held,
+    key: u64,
+) -> Landing
+    requires at_work { IsAtWork guard.old }
+    requires reached { HasReachedNext guard.old.caller.now.pass root key before at }
+    ensures at_work { IsAtWork guard.new }
+    ensures on { GoesOn guard.old guard.new }
+    ensures landing { IsLanding guard.new.caller.now.pass root key before (rank guard.old.caller.now.pass before) result }
+    ensures did { (es : List Event) × Looks key before at result es × DidAll guard.old es guard.new }
+{
+    let (found, link) = read(guard, root, &before, &at, key);
+    if link.is_marked() {
+        if take_out(guard, &before, &at, link.clean()) {
+            return Landing::Stays;
+        }
+        return Landing::Restarts;
+    }
+    if found < key {
+        return Landing::On { at, key: found };
+    }
+    if found == key {
+        return Landing::Found(Spot::Present { before, at, link });
+    }
+    let next = Some(at);
+    Landing::Found(Spot::Absent { before, next })
+}
+
+// One hop.
+fn hop<'a, R: Scheme, A: Allocator, P: Pool>(
+    guard: &mut Guard<'a, MichaelShape, R, A, P>,
+    root: u32,
+    before: &Node,
+    key: u64,
+) -> Landing
+    requires at_work { IsAtWork guard.old }
+    requires home { IsHome (setup_of guard.old.manager.now.table) root key }
+    requires before { StandsBefore guard.old.caller.now.pass root key before.now }
+    ensures at_work { IsAtWork guard.new }
+    ensures on { GoesOn guard.old guard.new }
+    ensures landing { IsLanding guard.new.caller.now.pass root key before.now (rank guard.old.caller.now.pass before.now) result }
+    ensures did { (es : List Event) × Hops key before.now result es × DidAll guard.old es guard.new }
+{
+    let place = place_behind(before);
+    match guard.hold(place, same_node(before), LINK) {
+        Holding::Null => {
+            let before = same_node(before);
+            let next = None;
+            Landing::Found(Spot::Absent { before, next })
+        }
+        Holding::Held(at) => {
+            let from = same_node(before);
+            look(guard, root, from, at, key)
+        }
+        Holding::Marked(_) => Landing::Restarts,
+        Holding::Moved { found: _ } => Landing::Restarts,
+    }
+}
+
+// The node from which the next hop goes, where there is one.
+fn go_on(root: u32, before: Node, landing: Landing) -> Result<Node, Spot>
+    ensures { IsNext root before landing result }
+{
+    match landing {
+        Landing::On { at, key: _ } => Ok(Node::At(at)),
+        Landing::Stays => Ok(before),
+        Landing::Restarts => Ok(Node::Root(root)),
+        Landing::Found(spot) => Err(spot),
+    }
+}
+
+// Walks from the root to the place of the key, until `hops` has come to `budget`. `None`: one more is needed.
+pub(crate) fn find<'a, R: Scheme, A: Allocator, P: Pool>(
+    guard: &mut Guard<'a, MichaelShape, R, A, P>,
+    root: u32,
+    key: u64,
+    budget: u32,
+    hops: &mut u32,
+) -> Option<Spot>
+    requires at_work { IsAtWork guard.old }
+    requires home { IsHome (setup_of guard.old.manager.now.table) root key }
+    requires hops { hops.old ≤ budget }
+    ensures at_work { IsAtWork guard.new }
+    ensures on { GoesOn guard.old guard.new }
+    ensures hops { hops.new ≤ budget }
+    ensures spot { MatchOption result (hops.new ≡ budget) (λ spot. (hops.old < hops.new) × IsSpot guard.new.caller.now.pass root key spot) }
+    ensures did { (made : ℕ) × (es : List Event) × (hops.new ≡ hops.old + made) × Finds key root made result es × DidAll guard.old es guard.new }
+{
+    let mut before = Node::Root(root);
+    while *hops < budget {
+        *hops += 1;
+        let landing = hop(guard, root, &before, key);
+        match go_on(root, before, landing) {
+            Ok(node) => before = node,
+            Err(spot) => return Some(spot),
+        }
+    }
+    None
+}
