@@ -1,7 +1,7 @@
 // The calls of a list, with the root that each key has.
 ghost use Rattle.std.specs.Prelude.{◌≤◌, All, IfSome};
 ghost use Rattle.record_table.specs.Handles.{IsPassOf};
-ghost use Rattle.record_table.specs.Closing.{AreAllPasses};
+ghost use Rattle.record_table.specs.Closing.{AreAllPasses, IsWholePassOf};
 ghost use Rattle.manager.specs.Callers.{IsResting};
 ghost use Rattle.manager.specs.Made.{passes_of};
 
@@ -54,6 +54,18 @@ pub fn search(list: &TestList, caller: &mut TestCaller, key: u64, budget: u32) -
     list.search(caller, root, key, budget)
 }
 
+// The last of these callers, where there is one, and the others still.
+fn pop_caller(list: &TestList, callers: &mut Vec<TestCaller>) -> Option<TestCaller>
+    requires passes { All (IsWholePassOf list.now.manager.table) (passes_of callers.old.items) }
+    requires resting { All (IsResting (λ l v. Unit {0})) callers.old.items }
+    ensures passes { All (IsWholePassOf list.now.manager.table) (passes_of callers.new.items) }
+    ensures resting { All (IsResting (λ l v. Unit {0})) callers.new.items }
+    ensures of { IfSome result (λ caller. IsPassOf list.now.manager.table caller.pass) }
+    ensures caller { IfSome result (λ caller. IsResting (λ l v. Unit {0}) caller) }
+{
+    callers.pop()
+}
+
 /// The last of these callers, where there is one.
 pub fn last_caller(list: &TestList, callers: &mut Vec<TestCaller>) -> Option<TestCaller>
     requires passes { AreAllPasses list.now.manager.table (passes_of callers.old.items) }
@@ -61,7 +73,7 @@ pub fn last_caller(list: &TestList, callers: &mut Vec<TestCaller>) -> Option<Tes
     ensures of { IfSome result (λ caller. IsPassOf list.now.manager.table caller.pass) }
     ensures caller { IfSome result (λ caller. IsResting (λ l v. Unit {0}) caller) }
 {
-    callers.pop()
+    pop_caller(list, callers)
 }
 
 /// The last two of these callers, where there are as many: the last but one first.
@@ -71,7 +83,7 @@ pub fn last_two(list: &TestList, mut callers: Vec<TestCaller>) -> Option<(TestCa
     ensures of { IfSome result (λ pair. IsPassOf list.now.manager.table pair.0.pass × IsPassOf list.now.manager.table pair.1.pass) }
     ensures callers { IfSome result (λ pair. IsResting (λ l v. Unit {0}) pair.0 × IsResting (λ l v. Unit {0}) pair.1) }
 {
-    let last = callers.pop()?;
-    let first = callers.pop()?;
+    let last = pop_caller(list, &mut callers)?;
+    let first = pop_caller(list, &mut callers)?;
     Some((first, last))
 }
