@@ -65,8 +65,7 @@ fn count(alloc: Global, calls: u32, keys: u32) -> Option<u64>
         shared: false,
     };
     let workload = generate(alloc, &plan).ok()?;
-    let (list, mut callers) =
-        TestList::prepare(alloc, calls + 1, 1, Generation::new(1)?, 1).ok()?;
+    let (list, mut callers) = TestList::prepare(alloc, calls + 1, 1, Generation::new(1)?, 1).ok()?;
     let caller = last_caller(&list, &mut callers)?;
     if workload.callers() == 0 {
         return None;
