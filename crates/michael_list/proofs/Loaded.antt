@@ -1,5 +1,5 @@
 -- What the loads of a record's key and of its link show of it.
-use Rattle.std.proofs.Common.{◌≡◌, ℕ, zero, suc, ◌+◌, ◌-◌, ◌%◌, ◌<◌, ◌≤◌, List, [], ◌∷◌, length, length-append, Bool, true, false, eqb, Option, Some, None, sym, refl, ap, ◌∙◌, subst, arith, get_or-set_same}
+use Rattle.std.proofs.Common.{◌≡◌, ℕ, zero, suc, ◌+◌, ◌%◌, ◌<◌, ◌≤◌, List, [], ◌∷◌, length, length-append, Bool, true, Some, sym, refl, ap, ◌∙◌, subst, arith, get_or-set_same}
 use Rattle.std.proofs.lemmas.Bool.{eq-eqb}
 use Rattle.atomic_table.proofs.Lists.{set_here}
 use Rattle.set_model.specs.Keys.{contains}
@@ -15,7 +15,7 @@ use Rattle.record_rule.specs.World.{StartsWith}
 use Rattle.record_rule.specs.Links.{from_place, note_in, note_word, noting, LoadedKey, LoadedLink}
 use Rattle.record_rule.proofs.Rebuilt.{starts_itself}
 use Rattle.list_facts.specs.Michael.{michael}
-use Rattle.list_facts.specs.Steps.{list_settled, marked_with, key_noted}
+use Rattle.list_facts.specs.Steps.{list_settled, marked_with}
 use Rattle.list_facts.proofs.Nodes.{noted_key}
 use Rattle.record_table.specs.declared.passes.Pass.{Pass}
 use Rattle.record_table.specs.declared.nodes.Held.{Held}
@@ -72,10 +72,12 @@ module _ {S R : Type 0} (c : CoverFacts) (p q : Pass S R) (root : ℕ) (at : Hel
   mark_noted mark =
       let is : link ≡ told.link.link = ap link_in told.link.packed ∙ link_in-packed_link told.link.own told.link.link told.link.in_range in
       let word : n ≡ packed_link told.link.own (marked_with (unmarked link)) = told.link.packed ∙ ap (packed_link told.link.own) (sym is ∙ ap (λ f. record link { flags = f }) (flag_is mark)) in
-      let settled : list_settled 3 told.saw.body ≡ true = eq-eqb (mark_bit (link_at told.saw.body 3)) 1 (ap mark_bit is_link ∙ mark) in
-      (told.link.own, subst (λ k. Stands (note_in (view q).own.notes at.place).words 0 (Some k)) word
-          (subst (λ (v : View). Stands (note_in v.own.notes at.place).words 0 (Some n)) (sym told.view)
-              (noting_here (view p).own.notes at.place stands.keyed.0 n at.target (list_settled 3 told.saw.body) settled stands.keyed.1 stands.long)))
+      let settled : list_settled 3 told.saw.body ≡ true = eq-eqb (mark_bit (link_at told.saw.body 3)) 1 (ap mark_bit is_link ∙ mark) in (
+        told.link.own,
+        subst (λ k. Stands (note_in (view q).own.notes at.place).words 0 (Some k)) word
+            (subst (λ (v : View). Stands (note_in v.own.notes at.place).words 0 (Some n)) (sym told.view)
+            (noting_here (view p).own.notes at.place stands.keyed.0 n at.target (list_settled 3 told.saw.body) settled stands.keyed.1 stands.long)),
+      )
 
   -- where it has none, the record's key was in the set
   pub present_there : (key : ℕ) → ¬ HasMark link → (view q).setup ≡ (view p).setup → AnswersNone (view p) (view q) → KeepsHeld p q → HasStarted p → rank p (At at) ≡ key + 1 → HasSeenKey q key true

@@ -1,9 +1,7 @@
 -- What the two loads of a record that a hop reached show, and what follows.
-use Rattle.std.proofs.Common.{◌≡◌, ℕ, ◌+◌, ◌<◌, [], ◌∷◌, ◌++◌, List, Some, None, sym, refl, ap, ◌∙◌, subst, arith}
+use Rattle.std.proofs.Common.{◌≡◌, ℕ, [], ◌∷◌, ◌++◌, List}
 use Rattle.row_words.specs.Refs.{LinkParts}
-use Rattle.record_memory.specs.declared.books.View.{View}
 use Rattle.record_table.specs.declared.nodes.Held.{Held}
-use Rattle.record_table.specs.declared.nodes.Node.{Node}
 use Rattle.record_table.specs.declared.nodes.Node.TheVariants.{At}
 use Rattle.reclaim_api.specs.declared.scheme.Scheme.{Ghosts as OfScheme}
 use Rattle.alloc_api.specs.declared.Allocator.{Ghosts as OfAllocator}

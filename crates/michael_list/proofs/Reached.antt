@@ -1,8 +1,5 @@
 -- What a hop shows: that no key stands between its node and what it reached, and where that stands.
-use Rattle.std.proofs.Common.{◌≡◌, ◌≢◌, ℕ, ◌+◌, ◌-◌, ◌%◌, ◌<◌, ◌≤◌, List, ◌∷◌, [], length, Bool, true, false, cond, eqb, Option, Some, None, MatchOption, sym, refl, ap, ◌∙◌, subst, arith}
-use Rattle.set_model.specs.declared.calls.Update.{Update}
-use Rattle.set_model.specs.Keys.{contains}
-use Rattle.set_model.specs.Histories.{keys_of}
+use Rattle.std.proofs.Common.{◌≡◌, ◌≢◌, ℕ, ◌+◌, ◌%◌, ◌<◌, List, length, false, cond, eqb, Option, Some, None, MatchOption, sym, refl, ap, ◌∙◌, subst, arith}
 use Rattle.record_memory.specs.declared.books.Setup.{Setup}
 use Rattle.record_memory.specs.declared.books.Note.{Note}
 use Rattle.row_words.specs.Refs.{RefParts, LinkParts}
@@ -23,7 +20,7 @@ use Rattle.record_table.specs.Handles.{view}
 use Rattle.record_table.specs.Nodes.{origin, HoldsThere}
 use Rattle.reclaim_api.specs.Holds.{KeepsElse, IsElsewhere, HasSeen}
 use Rattle.manager.specs.Callers.{AnswersNone}
-use Rattle.michael_list.specs.Knowing.{near, rank, StandsAt, StandsBefore, HasSeenKey, HasReachedNext}
+use Rattle.michael_list.specs.Knowing.{rank, StandsAt, StandsBefore, HasSeenKey, HasReachedNext}
 use Rattle.michael_list.proofs.Standing.{key_known, Covers, stands_still}
 
 -- where a node stands by what is known of it is where its body says

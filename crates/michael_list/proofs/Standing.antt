@@ -2,7 +2,6 @@
 use Rattle.std.proofs.Common.{◌≡◌, ◌≢◌, ◌⊎◌, inl, ℕ, ◌+◌, ◌%◌, ◌<◌, Bool, false, Some, None, sym, refl, ap, ◌∙◌, subst, arith}
 use Rattle.record_memory.specs.declared.books.Setup.{Setup}
 use Rattle.record_memory.specs.declared.books.Note.{Note}
-use Rattle.set_model.specs.declared.calls.Update.{Update}
 use Rattle.row_words.specs.Packing.{key_in}
 use Rattle.record_rule.specs.Facts.{At as Stands}
 use Rattle.record_rule.specs.World.{StartsWith}
@@ -35,18 +34,24 @@ module _ {S R : Type 0} (places : ℕ → Type 0) (words : ℕ → ℕ → Type 
 
   -- it stands there still, at its rank
   pub stands_still : (root : ℕ) (node : Node) → Covers places words node → StandsAt p root node → StandsAt q root node × (rank q node ≡ rank p node)
-  stands_still root (Root n) covers h = (record {
-    there = subst (λ (k : Setup). n < k.roots) (sym setup) h.there;
-    keyed = tt;
-    home = h.home;
-    long = tt;
-  }, refl)
-  stands_still root (At at) covers h = let same = same_key at covers.1 h.keyed.0 h.keyed.1 in (record {
-    there = keeps.holds at covers.0 h.there;
-    keyed = (h.keyed.0, keeps.notes at.place 1 h.keyed.0 covers.1 h.keyed.1);
-    home = ap (λ (k : Setup). key_noted (note_in (view q).own.notes at.place) % k.roots) setup ∙ ap (λ k. k % (view p).setup.roots) same ∙ h.home;
-    long = keeps.long at.place covers.0 ∙ h.long;
-  }, ap (λ k. k + 1) same)
+  stands_still root (Root n) covers h = (
+    record {
+      there = subst (λ (k : Setup). n < k.roots) (sym setup) h.there;
+      keyed = tt;
+      home = h.home;
+      long = tt;
+    },
+    refl,
+  )
+  stands_still root (At at) covers h = let same = same_key at covers.1 h.keyed.0 h.keyed.1 in (
+    record {
+      there = keeps.holds at covers.0 h.there;
+      keyed = (h.keyed.0, keeps.notes at.place 1 h.keyed.0 covers.1 h.keyed.1);
+      home = ap (λ (k : Setup). key_noted (note_in (view q).own.notes at.place) % k.roots) setup ∙ ap (λ k. k % (view p).setup.roots) same ∙ h.home;
+      long = keeps.long at.place covers.0 ∙ h.long;
+    },
+    ap (λ k. k + 1) same,
+  )
 
   -- what was seen of a key is so still
   pub seen_still : AnswersNone (view p) (view q) → (key : ℕ) (b : Bool) → HasSeenKey p key b → HasSeenKey q key b

@@ -9,10 +9,9 @@ use Rattle.row_words.specs.Refs.{RefParts, LinkParts}
 use Rattle.row_words.specs.Packing.{packed_ref}
 use Rattle.record_table.specs.declared.nodes.Held.{Held}
 use Rattle.record_table.specs.declared.nodes.Node.{Node}
-use Rattle.record_table.specs.declared.nodes.Node.TheVariants.{Root, At}
+use Rattle.record_table.specs.declared.nodes.Node.TheVariants.{At}
 use Rattle.record_pieces.specs.Events.{Event, exchanged, published, took, refused, stored_own, gave_back, placed}
 use Rattle.list_facts.specs.Steps.{marked_with}
-use Rattle.michael_list.specs.declared.spots.Spot.{Spot}
 use Rattle.michael_list.specs.declared.spots.Spot.TheVariants.{Present, Absent}
 use Rattle.michael_list.specs.Walks.{TakesOut, Finds}
 

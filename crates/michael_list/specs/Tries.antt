@@ -1,5 +1,5 @@
 -- What one try of an insertion leaves.
-use Rattle.std.specs.Prelude.{◌≡◌, ℕ, ◌<◌, List, Option, Some, MatchOption}
+use Rattle.std.specs.Prelude.{ℕ, ◌<◌, List, Option, Some, MatchOption}
 use Rattle.record_memory.specs.declared.books.View.{View}
 use Rattle.row_words.specs.Refs.{RefParts}
 use Rattle.record_rule.specs.HandingOut.{IsOwnOf}

@@ -1,5 +1,5 @@
 -- What a walk for a key does: hops, each from a node, cut into tries that start at the root.
-use Rattle.std.specs.Prelude.{◌≡◌, ℕ, suc, ◌+◌, ◌<◌, List, [], ◌∷◌, ◌++◌, Bool, true, false, Option, Some, None}
+use Rattle.std.specs.Prelude.{◌≡◌, ℕ, ◌+◌, ◌<◌, List, [], ◌∷◌, ◌++◌, Bool, true, false, Option, Some, None}
 use Rattle.row_words.specs.Refs.{LinkParts}
 use Rattle.record_rule.specs.Facts.{HasMark}
 use Rattle.record_table.specs.declared.nodes.Held.{Held}

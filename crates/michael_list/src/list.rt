@@ -186,11 +186,7 @@ impl<R: Scheme, A: Allocator, P: Pool> MichaelList<R, A, P> {
 
     /// Lets the caller `into` learn what the caller `from` has seen: afterwards whatever `from` had seen
     /// comes before each later call of `into`.
-    pub fn meet(
-        &self,
-        from: &mut Caller<MichaelShape, R>,
-        into: &mut Caller<MichaelShape, R>,
-    )
+    pub fn meet(&self, from: &mut Caller<MichaelShape, R>, into: &mut Caller<MichaelShape, R>)
         requires of { IsPassOf self.now.manager.table from.old.pass × IsPassOf self.now.manager.table into.old.pass }
         requires callers { IsResting R.is_local from.old × IsResting R.is_local into.old }
         ensures of { IsPassOf self.now.manager.table from.new.pass × IsPassOf self.now.manager.table into.new.pass }

@@ -29,13 +29,7 @@ fn place_behind(node: &Node) -> u8
 {
     match node {
         Node::Root(_) => 0,
-        Node::At(held) => {
-            if held.place == 0 {
-                1
-            } else {
-                0
-            }
-        }
+        Node::At(held) => { if held.place == 0 { 1 } else { 0 } }
     }
 }
 

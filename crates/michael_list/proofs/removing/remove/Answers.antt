@@ -1,4 +1,4 @@
-use Rattle.std.proofs.Common.{◌≡◌, ◌<◌, ◌≤◌, ◌-◌, ℕ, [], ◌++◌, List, refl, sym, subst, arith}
+use Rattle.std.proofs.Common.{◌<◌, ◌-◌, [], ◌++◌, refl, sym, subst, arith}
 use Rattle.record_memory.specs.declared.books.Setup.{Setup}
 use Rattle.record_table.specs.Handles.{view, setup_of}
 use Rattle.michael_list.specs.Knowing.{IsHome}

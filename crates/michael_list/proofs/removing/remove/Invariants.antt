@@ -1,4 +1,4 @@
-use Rattle.std.proofs.Common.{◌≡◌, ◌≤◌, ◌-◌, ℕ, List}
+use Rattle.std.proofs.Common.{◌≤◌, ◌-◌, List}
 use Rattle.record_table.specs.Handles.{view}
 use Rattle.record_pieces.specs.Events.{Event}
 use Rattle.manager.specs.Callers.{AnswersNone}

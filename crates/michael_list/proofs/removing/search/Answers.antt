@@ -1,4 +1,4 @@
-use Rattle.std.proofs.Common.{◌≡◌, ◌≤◌, ◌+◌, ℕ, [], ◌∷◌, ◌++◌, List, true, false, Some, None, sym, ◌∙◌, subst, arith}
+use Rattle.std.proofs.Common.{◌≡◌, [], ◌∷◌, ◌++◌, true, false, None, sym, subst, arith}
 use Rattle.set_model.specs.declared.calls.Call.TheVariants.{Search}
 use Rattle.set_model.specs.declared.calls.LookAnswer.TheVariants.{Again as LookAgain}
 use Rattle.record_pieces.specs.Events.{Event, placed}

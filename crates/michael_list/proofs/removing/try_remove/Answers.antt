@@ -1,4 +1,4 @@
-use Rattle.std.proofs.Common.{◌≡◌, ◌<◌, ◌≤◌, ◌+◌, ℕ, [], ◌∷◌, ◌++◌, List, Bool, true, false, Some, None, append_assoc, sym, ◌∙◌, subst, arith}
+use Rattle.std.proofs.Common.{◌≡◌, ◌+◌, ℕ, [], ◌∷◌, ◌++◌, List, true, false, Some, None, append_assoc, sym, ◌∙◌, subst, arith}
 use Rattle.set_model.specs.declared.calls.Call.TheVariants.{Remove}
 use Rattle.set_model.specs.declared.calls.LookAnswer.TheVariants.{Done as Looked, Again as LookAgain}
 use Rattle.record_pieces.specs.Events.{Event, placed}

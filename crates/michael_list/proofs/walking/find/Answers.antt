@@ -1,8 +1,4 @@
-use Rattle.std.proofs.Common.{◌≡◌, ℕ, ◌+◌, ◌<◌, ◌%◌, List, [], ◌++◌, sym, refl, ap, ◌∙◌, subst, arith}
-use Rattle.record_memory.specs.declared.books.Setup.{Setup}
-use Rattle.record_table.specs.Handles.{setup_of, view}
-use Rattle.record_table.specs.declared.nodes.Node.TheVariants.{Root}
-use Rattle.manager.specs.Guards.{DidAll}
+use Rattle.std.proofs.Common.{◌+◌, [], ◌++◌, refl, arith}
 use Rattle.michael_list.specs.declared.spots.Landing.TheVariants.{Found}
 use Rattle.michael_list.specs.Walks.{Hops, starts, found, needs_more}
 use Rattle.michael_list.specs.Knowing.{IsSpot, rank}

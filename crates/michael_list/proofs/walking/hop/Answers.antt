@@ -1,16 +1,12 @@
-use Rattle.std.proofs.Common.{◌≡◌, ◌<◌, ◌%◌, [], ◌∷◌, Some, None, true, false, sym, refl, ap, ◌∙◌, subst, arith}
-use Rattle.row_words.specs.Refs.{LinkParts}
+use Rattle.std.proofs.Common.{◌≡◌, ◌%◌, [], ◌∷◌, None, sym, ap, ◌∙◌, subst, arith}
 use Rattle.record_memory.specs.declared.books.Setup.{Setup}
 use Rattle.list_facts.specs.Michael.{michael}
-use Rattle.record_table.specs.declared.nodes.Held.{Held}
 use Rattle.record_table.specs.declared.nodes.Node.{Node}
-use Rattle.record_table.specs.declared.nodes.Node.TheVariants.{At}
-use Rattle.record_table.specs.Nodes.{origin, HoldsNode}
-use Rattle.record_table.specs.Handles.{view}
+use Rattle.record_table.specs.Nodes.{origin}
 use Rattle.reclaim_api.specs.Holds.{HasSeen, IsElsewhere}
 use Rattle.reclaim_api.specs.declared.holding.Holding.TheVariants.{Null, Held as Holds, Marked, Moved}
 use Rattle.record_pieces.specs.Events.{Event, hopped}
-use Rattle.manager.specs.Guards.{Did, DidAll}
+use Rattle.manager.specs.Guards.{Did}
 use Rattle.michael_list.specs.Walks.{Looks, Hops, ends, meets_mark, moves, reaches}
 use Rattle.michael_list.specs.declared.spots.Spot.TheVariants.{Absent}
 use Rattle.michael_list.specs.declared.spots.Landing.TheVariants.{Found}
@@ -31,7 +27,7 @@ look-requires-clause-reached g c =
     let home = ap (λ (k : Setup). c.args.key % k.roots) c.args.guard.now.of.setup ∙ c.requires.home.1 in
     let seen = subst (λ (n : Node). HasSeen michael place (origin n) p q last.0) c.same_node.ensures last.3 in
     subst (λ (n : Node). HasReachedNext q c.args.root c.args.key n c.in-Held.at) (sym c.same_node-from.ensures)
-        (reaches_next p q place c.args.root c.args.key c.args.before.now last.0 c.in-Held.ensures.pass.setup c.in-Held.ensures.answers seen last.1 c.requires.before home c.in-Held.at told.0 told.1 last.2 c.place_behind-place.ensures.else_ c.in-Held.ensures.keeps)
+    (reaches_next p q place c.args.root c.args.key c.args.before.now last.0 c.in-Held.ensures.pass.setup c.in-Held.ensures.answers seen last.1 c.requires.before home c.in-Held.at told.0 told.1 last.2 c.place_behind-place.ensures.else_ c.in-Held.ensures.keeps)
 
 pub returns-in-Null-clause-landing : goal.returns-in-Null-clause-landing
 returns-in-Null-clause-landing g c =
@@ -56,7 +52,7 @@ low_is : (g : _) (c : goal.After-look g) → rank c.hold.new.self.caller.now.pas
 low_is g c =
     let p = c.args.guard.now.caller.now.pass in let q = c.hold.new.self.caller.now.pass in let place = c.place_behind-place.result in let last = c.in-Held.ensures.reached.2 in
     (stands_else p q place c.args.root c.args.key c.args.before.now last.0 c.in-Held.ensures.pass.setup c.in-Held.ensures.answers (subst (λ (n : Node). HasSeen michael place (origin n) p q last.0) c.same_node.ensures last.3) last.1 c.requires.before
-        (ap (λ (k : Setup). c.args.key % k.roots) c.args.guard.now.of.setup ∙ c.requires.home.1) c.place_behind-place.ensures.else_ c.in-Held.ensures.keeps).1
+    (ap (λ (k : Setup). c.args.key % k.roots) c.args.guard.now.of.setup ∙ c.requires.home.1) c.place_behind-place.ensures.else_ c.in-Held.ensures.keeps).1
 
 pub returns-in-Held-clause-landing : goal.returns-in-Held-clause-landing
 returns-in-Held-clause-landing g c =

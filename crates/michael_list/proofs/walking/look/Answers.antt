@@ -1,8 +1,6 @@
-use Rattle.std.proofs.Common.{◌≡◌, ◌<◌, ◌+◌, ℕ, List, [], ◌∷◌, ◌++◌, Bool, true, false, Some, None, IsTrue, sym, ap, ◌∙◌, subst, arith}
+use Rattle.std.proofs.Common.{◌≡◌, ◌<◌, ◌+◌, ◌++◌, Bool, true, false, IsTrue, sym, ap, ◌∙◌, subst, arith}
 use Rattle.row_words.specs.Refs.{LinkParts}
 use Rattle.record_rule.specs.Facts.{HasMark}
-use Rattle.record_pieces.specs.Events.{Event}
-use Rattle.record_table.specs.declared.nodes.Node.TheVariants.{At}
 use Rattle.michael_list.specs.Walks.{unmarked, loads, TakesOut, passes, finds, misses, clears, is_late}
 use Rattle.michael_list.specs.Knowing.{IsMarkNoted}
 use Rattle.michael_list.proofs.Going.{did_then}

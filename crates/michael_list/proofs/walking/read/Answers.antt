@@ -32,7 +32,7 @@ after_key g c = reached_still c.args.guard.now.caller.now.pass c.load_key-found.
 key_rank : (g : _) (c : goal.After-load_link-link g) → rank c.load_key-found.new.self.caller.now.pass (At c.args.at.now) ≡ c.load_key-found.result + 1
 key_rank g c =
     (stands_held c.args.guard.now.caller.now.pass c.load_key-found.new.self.caller.now.pass c.load_key-found.ensures.pass.setup c.args.root c.load_key-found.ensures.keeps (At c.args.at.now) c.requires.reached.stands).1
-        ∙ rank_loaded c.args.guard.now.caller.now.pass c.load_key-found.new.self.caller.now.pass c.args.at.now c.load_key-found.ensures.step.0 (key_told g c) ∙ ap (λ k. k + 1) (sym c.load_key-found.ensures.step.1)
+    ∙ rank_loaded c.args.guard.now.caller.now.pass c.load_key-found.new.self.caller.now.pass c.args.at.now c.load_key-found.ensures.step.0 (key_told g c) ∙ ap (λ k. k + 1) (sym c.load_key-found.ensures.step.1)
 
 pub returns-clause-reached : goal.returns-clause-reached
 returns-clause-reached g c = reached_still c.load_key-found.new.self.caller.now.pass c.load_link-link.new.self.caller.now.pass c.load_link-link.ensures.pass.setup c.args.root c.load_link-link.ensures.keeps c.load_link-link.ensures.answers c.args.key c.args.before.now c.args.at.now (after_key g c)
@@ -40,7 +40,7 @@ returns-clause-reached g c = reached_still c.load_key-found.new.self.caller.now.
 pub returns-clause-low : goal.returns-clause-low
 returns-clause-low g c =
     (stands_held c.load_key-found.new.self.caller.now.pass c.load_link-link.new.self.caller.now.pass c.load_link-link.ensures.pass.setup c.args.root c.load_link-link.ensures.keeps c.args.before.now (after_key g c).before_it.stands).1
-        ∙ (stands_held c.args.guard.now.caller.now.pass c.load_key-found.new.self.caller.now.pass c.load_key-found.ensures.pass.setup c.args.root c.load_key-found.ensures.keeps c.args.before.now c.requires.reached.before_it.stands).1
+    ∙ (stands_held c.args.guard.now.caller.now.pass c.load_key-found.new.self.caller.now.pass c.load_key-found.ensures.pass.setup c.args.root c.load_key-found.ensures.keeps c.args.before.now c.requires.reached.before_it.stands).1
 
 pub returns-clause-key : goal.returns-clause-key
 returns-clause-key g c = (stands_held c.load_key-found.new.self.caller.now.pass c.load_link-link.new.self.caller.now.pass c.load_link-link.ensures.pass.setup c.args.root c.load_link-link.ensures.keeps (At c.args.at.now) (after_key g c).stands).1 ∙ key_rank g c

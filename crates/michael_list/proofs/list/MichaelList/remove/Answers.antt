@@ -11,5 +11,5 @@ returns-clause-did g c =
     let first = c.begin-guard.result in let last = c.remove-answer.new.guard in let did = c.remove-answer.ensures.did in
     let same = c.begin-guard.ensures.manager in let after = c.remove-answer.ensures.same.manager ∙ same in
     let t = whole m (setup_of c.args.self.now.manager.table) (setup_of first.manager.now.table) (setup_of last.manager.now.table) did.0 (view c.args.caller.now.pass).own (view first.caller.now.pass).own (view last.caller.now.pass).own (view c.finish.new.self.0.pass).own
-        (λ k. setup_of (same k).table) (λ k. setup_of (after k).table) c.begin-guard.ensures.did did.2 c.finish.ensures.did in
+    (λ k. setup_of (same k).table) (λ k. setup_of (after k).table) c.begin-guard.ensures.did did.2 c.finish.ensures.did in
     (did.0, did.1, search rules)
