@@ -1,6 +1,6 @@
 -- What the walk has counted behind the last root is what the table has, and what its history leaves.
 use Rattle.std.proofs.Common.{◌≡◌, ℕ, ap, ◌∙◌, subst}
-use Rattle.set_model.specs.Keys.{Keys, size_of, sum_of}
+use Rattle.set_model.specs.Keys.{size_of, sum_of}
 use Rattle.set_model.specs.Histories.{keys_of}
 use Rattle.record_table.specs.declared.closing.Closed.{Closed}
 use Rattle.record_table.specs.Closing.{closed_setup, history_of}

@@ -1,3 +1,4 @@
 pub mod WalkSteps
 pub mod ClosedRows
 pub mod ClosedSums
+pub mod TallySteps

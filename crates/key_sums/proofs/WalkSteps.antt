@@ -13,8 +13,8 @@ use Rattle.set_model.specs.Keys.{Keys, empty, contains, insert, size_of, sum_of}
 use Rattle.set_model.proofs.KeySets.{same_keys, contains-empty, contains-insert, size_of-empty, size_of-insert, sum_of-empty, sum_of-insert}
 use Rattle.record_memory.specs.declared.books.Setup.{Setup}
 use Rattle.record_rule.specs.Facts.{At, HasMark}
-use Rattle.record_rule.proofs.Lists.{below_at, at_below, get_at, one_at, at_replicate, counts_more}
-use Rattle.list_facts.specs.Paths.{row_word, row_link, row_key, NamesRow, IsPath, StandsOn, IsOnPath, IsSetOf, ArePaths}
+use Rattle.record_rule.proofs.Lists.{at_below, get_at, one_at, at_replicate, counts_more}
+use Rattle.list_facts.specs.Paths.{row_link, row_key, NamesRow, IsPath, StandsOn, IsSetOf, ArePaths}
 use Rattle.list_facts.proofs.Ways.{IsOption, none_is, some_is, is_option, one_target}
 use Rattle.key_sums.specs.Walking.{IsAt, IsPassed, Counted, left_behind}
 
@@ -74,8 +74,13 @@ module _ {setup : Setup} {rows : List (List ℕ)} {linked : ℕ → Type 0} (pat
 
     -- the walk goes on from the next record
     pub goes : IsAt setup rows root (place + 1) (row_link rows (t.index - 1))
-    goes = record { low = at.low; path = at.path; is_path = at.is_path; rest = subst (λ (n : ℕ). IsPath rows (row_link rows (t.index - 1)).target (drop n at.path)) (let z : suc place ≡ place + 1 = omega arith in z)
-        (subst (IsPath rows (row_link rows (t.index - 1)).target) (sym first.1) next.3) }
+    goes = record {
+      low = at.low;
+      path = at.path;
+      is_path = at.is_path;
+      rest = subst (λ (n : ℕ). IsPath rows (row_link rows (t.index - 1)).target (drop n at.path)) (let z : suc place ≡ place + 1 = omega arith in z)
+          (subst (IsPath rows (row_link rows (t.index - 1)).target) (sym first.1) next.3);
+    }
 
     -- what was passed behind it is that record, or was passed before
     passed_next : (i : ℕ) → IsPassed setup rows root (place + 1) i → (i ≡ t.index - 1) ⊎ IsPassed setup rows root place i

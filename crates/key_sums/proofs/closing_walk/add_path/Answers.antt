@@ -1,4 +1,4 @@
-use Rattle.std.proofs.Common.{◌≡◌, ℕ, ◌+◌, ◌-◌, ◌%◌, ◌<◌, Some, None, sym, ap, ◌∙◌, subst, arith}
+use Rattle.std.proofs.Common.{ℕ, ◌+◌, ◌%◌, ◌<◌, Some, sym, ap, ◌∙◌, subst, arith}
 use Rattle.std.proofs.lemmas.Bool.{both_ways}
 use Rattle.row_words.specs.Refs.{RefParts, LinkParts}
 use Rattle.record_table.specs.Closing.{closed_setup}
@@ -43,7 +43,7 @@ loop-link-preserved-then-not-is_marked c =
       w.0 + 1,
       subst (IsAt (closed_setup c.args.closed.now) (closed_rows c.args.closed.now) c.args.root (w.0 + 1)) (sym c.link_in-link-in-Some.ensures.link) (walk.goes lists.paths w.1 _ e),
       subst (λ (k : ℕ). Counted (closed_setup c.args.closed.now) (closed_rows c.args.closed.now) c.args.root (w.0 + 1) (c.loop-link.size + 1) (c.loop-link.sum + k)) (sym c.key_in-sum.ensures.key)
-      (walk.counts lists.paths w.1 _ e w.2 (λ mark. both_ways _ c.if-not-is_marked.true (c.is_marked.ensures.1 (ap (λ (z : LinkParts). z.flags % 2) c.link_in-link-in-Some.ensures.link ∙ mark)))),
+          (walk.counts lists.paths w.1 _ e w.2 (λ mark. both_ways _ c.if-not-is_marked.true (c.is_marked.ensures.1 (ap (λ (z : LinkParts). z.flags % 2) c.link_in-link-in-Some.ensures.link ∙ mark)))),
     )
 
 pub loop-link-smaller : goal.loop-link-smaller

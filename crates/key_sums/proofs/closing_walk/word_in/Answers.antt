@@ -1,4 +1,4 @@
-use Rattle.std.proofs.Common.{◌≡◌, ◌+◌, ◌*◌, get_or, ◌∙◌}
+use Rattle.std.proofs.Common.{◌+◌, ◌*◌, get_or, ◌∙◌}
 use Rattle.record_table.specs.Closing.{closed_words, closed_setup}
 use Rattle.key_sums.proofs.ClosedRows.{row_word_lies}
 use Rattle.key_sums.proofs.closing_walk.word_in.Goals as goal
