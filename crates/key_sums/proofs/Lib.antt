@@ -2,3 +2,4 @@ pub mod WalkSteps
 pub mod ClosedRows
 pub mod ClosedSums
 pub mod TallySteps
+pub mod GridSums
