@@ -18,3 +18,4 @@ pub mod MoveCounts
 pub mod ChainCounts
 pub mod Sums
 pub mod CallerSums
+pub mod MeetingAll

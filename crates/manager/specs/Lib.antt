@@ -3,3 +3,4 @@ pub mod Manners
 pub mod Guards
 pub mod Made
 pub mod Counted
+pub mod Meeting

@@ -12,6 +12,7 @@ mod counting;
 mod guard;
 mod making;
 mod meeting;
+mod meeting_all;
 mod records;
 mod steps;
 mod types;

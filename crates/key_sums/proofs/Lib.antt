@@ -1,0 +1,5 @@
+pub mod WalkSteps
+pub mod ClosedRows
+pub mod ClosedSums
+pub mod TallySteps
+pub mod GridSums
