@@ -17,6 +17,13 @@ IsReplyOf (Done answer) r = r ≡ reply_of_answer answer
 IsReplyOf (Full found) r = r ≡ reply.Full
 IsReplyOf (Again hops) r = ⊥
 
+-- a caller knew of no more updates than so many, and learned of others up to so many at least, and nothing else
+pub record Met (bound : ℕ) (v w : View) : Type 0 where
+  pub before : length v.front ≤ bound
+  pub behind : bound ≤ length w.front
+  pub own : StartsWith w.front v.front
+  pub rest : w ≡ record v { front = w.front }
+
 -- by a set whose calls make these steps, within this budget of hops
 module _ (steps : Call → ℕ → Answer → Book → Book → Type 0) (budget : ℕ) where
   -- one call of the set's, with its answer
@@ -43,10 +50,9 @@ module _ (steps : Call → ℕ → Answer → Book → Book → Type 0) (budget 
     none : {v : View} → Turns [] [] v v
     next : {calls : List Call} {replies : List Reply} {u v w : View} {call : Call} {r : Reply} → Turns calls replies u v → Turn call r v w → Turns (calls ++ call ∷ []) (replies ++ r ∷ []) u w
 
-  -- Phases one after another. Between two of them the caller learned what every caller had seen: `bounds` has for each
-  -- phase but the first how many updates that were at least, and at most.
+  -- Phases one after another. Before each of them the caller learned what every caller had seen before: `bounds` has for
+  -- each phase how many updates that were, at most before and at least behind.
   pub data Phases : List (List Call) → List Reply → List ℕ → View → View → Type 0 where
-    first : {calls : List Call} {replies : List Reply} {u v : View} → Turns calls replies u v → Phases (calls ∷ []) replies [] u v
-    next : {phases : List (List Call)} {calls : List Call} {before replies : List Reply} {bounds : List ℕ} {u v w x : View} (bound : ℕ) → Phases phases before bounds u v
-        → length v.front ≤ bound → bound ≤ length w.front → StartsWith w.front v.front → w ≡ record v { front = w.front } → Turns calls replies w x
+    none : {v : View} → Phases [] [] [] v v
+    next : {phases : List (List Call)} {calls : List Call} {before replies : List Reply} {bounds : List ℕ} {u v w x : View} {bound : ℕ} → Phases phases before bounds u v → Met bound v w → Turns calls replies w x
         → Phases (phases ++ calls ∷ []) (before ++ replies) (bounds ++ bound ∷ []) u x

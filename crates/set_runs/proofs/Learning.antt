@@ -109,20 +109,29 @@ module _ {T C : Type 0} (has : T → C → Type 0) (set' : T) (view : C → View
 
     met : (i : ℕ) (d : Player C) → i < length (first ∷ xs) → HasMet has set' view (front_length f) (get_or (first ∷ xs) i d) (get_or (h ∷ zs) i d)
     met zero d there = record {
-      learns = record {
-        same = record { has_it = kept.same.has_it; same_number = kept.same.same_number ∙ learned.same.same_number; same_replies = kept.same.same_replies ∙ learned.same.same_replies };
+      same = record { has_it = kept.same.has_it; same_number = kept.same.same_number ∙ learned.same.same_number; same_replies = kept.same.same_replies ∙ learned.same.same_replies };
+      met = record {
+        before = starts_shorter (view f.caller).front (view first.caller).front learned.own;
+        behind = omega (arith, ap (λ (v : View). length v.front) kept.same_view);
         own = subst (λ (v : View). StartsWith v.front (view first.caller).front) (sym kept.same_view) learned.own;
         rest = kept.same_view ∙ learned.rest ∙ ap (λ (v : View). record (view first.caller) { front = v.front }) (sym kept.same_view);
       };
-      before = starts_shorter (view f.caller).front (view first.caller).front learned.own;
-      behind = omega (arith, ap (λ (v : View). length v.front) kept.same_view);
     }
     met (suc i) d there =
         let within : i < length xs = omega (arith, there) in
         let in_ys : i < length ys = subst (λ l. i < l) (sym others.same_length) within in
         let in_zs : i < length zs = subst (λ l. i < l) (sym told.same_length) in_ys in
+        let l = stayed (get_or xs i d) (get_or ys i d) (get_or zs i d) (others.each i d within) (told.each i d in_ys) in
         record {
-          learns = stayed (get_or xs i d) (get_or ys i d) (get_or zs i d) (others.each i d within) (told.each i d in_ys);
-          before = omega (arith, ap (λ (v : View). length v.front) (others.each i d within).same_view, All-get_or (λ (p : Player C). front_length p ≤ front_length f) ys i d in_ys before);
-          behind = All-get_or (λ (p : Player C). front_length f ≤ front_length p) zs i d in_zs behind;
+          same = l.same;
+          met = record {
+            before = omega (arith, ap (λ (v : View). length v.front) (others.each i d within).same_view, All-get_or (λ (p : Player C). front_length p ≤ front_length f) ys i d in_ys before);
+            behind = All-get_or (λ (p : Player C). front_length f ≤ front_length p) zs i d in_zs behind;
+            own = l.own;
+            rest = l.rest;
+          };
         }
+
+  -- who knew of no update has met nobody
+  pub met_nobody : (p : Player C) → has set' p.caller → front_length p ≤ 0 → HasMet has set' view 0 p p
+  met_nobody p h none = record { same = same_player p h; met = record { before = none; behind = omega arith; own = starts_itself (view p.caller).front; rest = refl } }

@@ -1,12 +1,12 @@
 -- What a caller at play has before a phase, and what comes of it.
-use Rattle.std.specs.Prelude.{◌≡◌, ℕ, ◌+◌, ◌≤◌, ◌<◌, List, [], ◌++◌, length, slice_index_or, vec_capacity}
+use Rattle.std.specs.Prelude.{◌≡◌, ℕ, ◌+◌, ◌≤◌, ◌<◌, List, [], ◌++◌, length, take, sum_by, slice_index_or, vec_capacity}
 use Rattle.set_model.specs.declared.calls.Call.{Call}
 use Rattle.set_model.specs.declared.calls.Reply.{Reply}
 use Rattle.record_memory.specs.declared.books.Book.{Book}
 use Rattle.record_memory.specs.declared.books.View.{View}
 use Rattle.record_rule.specs.World.{StartsWith}
 use Rattle.set_api.specs.declared.answer.Answer.{Answer}
-use Rattle.set_api.specs.Turns.{Turns}
+use Rattle.set_api.specs.Turns.{Met, Turns, Phases}
 use Rattle.set_runs.specs.declared.players.Player.{Player}
 
 -- the phases of a caller, and its calls in one of them
@@ -39,11 +39,10 @@ module _ {T C : Type 0} (has : T → C → Type 0) (set : T) where
     pub own : StartsWith (view q.caller).front (view p.caller).front
     pub rest : view q.caller ≡ record (view p.caller) { front = (view q.caller).front }
 
-  -- which knew of no more updates than so many, and now knows of so many at least
+  -- which met all others
   pub record HasMet (view : C → View) (bound : ℕ) (p q : Player C) : Type 0 where
-    pub learns : Learns view p q
-    pub before : length (view p.caller).front ≤ bound
-    pub behind : bound ≤ length (view q.caller).front
+    pub same : IsSamePlayer p q
+    pub met : Met bound (view p.caller) (view q.caller)
 
 -- on a set whose callers are these, by what they know
 module _ {T C : Type 0} (has : T → C → Type 0) (set : T) (lists : List (List (List Call))) (phase : ℕ) where
@@ -62,3 +61,12 @@ module _ {T C : Type 0} (has : T → C → Type 0) (set : T) (lists : List (List
     pub noted : q.replies.items ≡ p.replies.items ++ replies
     pub turns : Turns steps budget (calls_at lists p.number phase) replies (view p.caller) (view q.caller)
     pub same_capacity : vec_capacity p.replies ≤ vec_capacity q.replies
+
+  -- Before the phase with this number, counted from 0: it has played those before, from what it knew at the beginning, and has
+  -- room for the replies to all its calls
+  pub record IsAt (view : C → View) (steps : Call → ℕ → Answer → Book → Book → Type 0) (budget : ℕ) (bounds : List ℕ) (number : ℕ) (start : View) (p : Player C) : Type 0 where
+    pub has_it : has set p.caller
+    pub number_is : p.number ≡ number
+    pub played : Phases steps budget (take phase (phases_of lists number)) p.replies.items bounds start (view p.caller)
+    pub counted : length p.replies.items ≡ sum_by length (take phase (phases_of lists number))
+    pub room : sum_by length (phases_of lists number) ≤ vec_capacity p.replies
