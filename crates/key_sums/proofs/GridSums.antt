@@ -1,5 +1,5 @@
 -- Two ways to add the same numbers: along a list, and by the rows of a grid where each entry of the list has a cell of its own.
-use Rattle.std.proofs.Common.{◌≡◌, ◌≢◌, ℕ, zero, suc, ◌+◌, ◌<◌, ◌⊎◌, List, [], ◌∷◌, length, length-set, get_or, set, sum, sum_by, inl, inr, ⊎_elim, sym, refl, ap, ◌∙◌, subst, arith, get_or-set_same, get_or-set_other}
+use Rattle.std.proofs.Common.{◌≡◌, ◌≢◌, ℕ, zero, suc, ◌+◌, ◌<◌, List, [], ◌∷◌, length, length-set, get_or, set, sum, sum_by, ⊎_elim, sym, refl, ap, ◌∙◌, subst, arith, get_or-set_same, get_or-set_other}
 use Rattle.std.proofs.lemmas.List.Sums.{sum_by-set, sum_by-cons}
 use Rattle.std.proofs.lemmas.Bool.{cases_eq}
 use mathlib.Core.Option.{some-injective}
@@ -39,7 +39,7 @@ module _ (grid : List (List ℕ)) (c n : ℕ) (within : IsWithin grid c n) where
   cleared_else : (d m : ℕ) → (d ≡ c → m ≡ n → ⊥) → cell (cleared grid c n) d m ≡ cell grid d m
   cleared_else d m else = ⊎_elim
       (λ e. ap (λ (k : ℕ). cell (cleared grid c n) k m) e ∙ ap (λ (l : List ℕ). get_or l m 0) (get_or-set_same grid c (set (get_or grid c []) n 0) [] within.0)
-        ∙ get_or-set_other (get_or grid c []) n m 0 0 (λ same. else e same) ∙ ap (λ (k : ℕ). cell grid k m) (sym e))
+      ∙ get_or-set_other (get_or grid c []) n m 0 0 (λ same. else e same) ∙ ap (λ (k : ℕ). cell grid k m) (sym e))
       (λ ne. ap (λ (l : List ℕ). get_or l m 0) (get_or-set_other grid c d (set (get_or grid c []) n 0) [] ne))
       (cases_eq d c)
 
@@ -47,7 +47,7 @@ module _ (grid : List (List ℕ)) (c n : ℕ) (within : IsWithin grid c n) where
   still_within d m (low, short) = (
     subst (λ (k : ℕ). d < k) (sym (length-set grid c (set (get_or grid c []) n 0))) low,
     got_set (λ (l : List ℕ). m < length l) grid c d (set (get_or grid c []) n 0) [] within.0
-      (λ e. subst (λ (k : ℕ). m < k) (ap (λ (k : ℕ). length (get_or grid k [])) e ∙ sym (length-set (get_or grid c []) n 0)) short) (λ ne. short),
+        (λ e. subst (λ (k : ℕ). m < k) (ap (λ (k : ℕ). length (get_or grid k [])) e ∙ sym (length-set (get_or grid c []) n 0)) short) (λ ne. short),
   )
 
 module _ {A : Type 0} (f row place : A → ℕ) where
@@ -78,5 +78,5 @@ module _ {A : Type 0} (f row place : A → ℕ) where
       in_rest d m some (zero, b, at, same, place_same) =
           let is_a : a ≡ b = some-injective a b at in
           absurd (some (
-            ap (λ (k : ℕ). cell (cleared grid (row a) (place a)) k m) (sym same ∙ ap row (sym is_a)) ∙ ap (cell (cleared grid (row a) (place a)) (row a)) (sym place_same ∙ ap place (sym is_a))
-            ∙ cleared_here grid (row a) (place a) (is.within 0 a refl)))
+          ap (λ (k : ℕ). cell (cleared grid (row a) (place a)) k m) (sym same ∙ ap row (sym is_a)) ∙ ap (cell (cleared grid (row a) (place a)) (row a)) (sym place_same ∙ ap place (sym is_a))
+          ∙ cleared_here grid (row a) (place a) (is.within 0 a refl)))

@@ -3,3 +3,5 @@ pub mod ClosedRows
 pub mod ClosedSums
 pub mod TallySteps
 pub mod GridSums
+pub mod TallyBalance
+pub mod ClosedBalance

@@ -1,3 +1,4 @@
 pub mod Sums
 pub mod Walking
 pub mod Tallies
+pub mod Balances

@@ -5,10 +5,12 @@
 //! legal histories.
 #![tactic(auto)]
 
+mod balance;
 mod closing_walk;
 mod counting;
 mod tallies;
 
+pub use balance::show_balance;
 pub use closing_walk::size_and_sum;
 pub use counting::tally;
 pub use tallies::Tally;

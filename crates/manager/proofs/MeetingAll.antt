@@ -1,15 +1,14 @@
 -- All callers meet in the first one, and learn from it.
-use Rattle.std.proofs.Common.{◌≡◌, ◌≢◌, ℕ, zero, suc, ◌+◌, ◌<◌, ◌≤◌, List, [], ◌∷◌, All, map, length, length-set, get_or, set, sym, refl, ap, ◌∙◌, subst, ⊎_elim, inl, inr, arith}
-use Rattle.std.proofs.lemmas.List.{append-nil}
-use native.Mathlib.Decide.{dec_le, ℕ_discrete}
+use Rattle.std.proofs.Common.{◌≡◌, ℕ, zero, suc, ◌+◌, ◌<◌, List, [], ◌∷◌, ◌++◌, All, map, length, length-set, get_or, set, take, drop, sym, refl, ap, ◌∙◌, subst, ⊎_elim, arith}
+use Rattle.std.proofs.lemmas.List.{append-nil, take_all, drop_all}
+use native.Mathlib.Decide.{dec_le}
 use mathlib.Core.Logic.{dite}
-use mathlib.Core.Option.{some, some-injective, some-ne-none}
-use Rattle.atomic_table.proofs.Lists.{at_set}
+use mathlib.Core.Option.{some-injective}
+use Rattle.atomic_table.proofs.Lists.{at_set, at_map}
 use Rattle.set_model.specs.declared.calls.Update.{Update}
 use Rattle.record_memory.specs.declared.books.View.{View}
 use Rattle.record_rule.specs.Facts.{At}
-use Rattle.record_rule.specs.World.{StartsWith}
-use Rattle.record_rule.proofs.Lists.{at_below, below_at, get_at, one_at}
+use Rattle.record_rule.proofs.Lists.{at_below, below_at, get_at, one_at, map_at}
 use Rattle.record_rule.proofs.Rebuilt.{starts_then}
 use Rattle.record_table.specs.declared.table.Table.{Table}
 use Rattle.record_table.specs.declared.passes.Pass.{Pass}
@@ -20,15 +19,47 @@ use Rattle.manager.specs.Callers.{IsResting}
 use Rattle.manager.specs.Made.{pass_of, passes_of}
 use Rattle.manager.specs.Meeting.{front_of, KnowsOf, HasGathered, HaveLearnt, HaveAllMet, IsAtRest, AreAtRest, HasMet, HaveMet}
 
+-- what is read within a list stands there
+pub at_read : {A : Type 0} (l : List A) (i : ℕ) (d : A) → i < length l → At l i (get_or l i d)
+at_read l i d low = let x = at_below l i low in subst (At l i) (sym (get_at l i x.0 d x.1)) x.1
+
+-- a fact of each entry, by its place
+all_at : {A : Type 0} (P : A → Type 0) (l : List A) → All P l → (i : ℕ) (a : A) → At l i a → P a
+all_at P l all i a at = subst P (get_at l i a a at) (all i a (below_at l i a at))
+
+at_all : {A : Type 0} (P : A → Type 0) (l : List A) → ((i : ℕ) (a : A) → At l i a → P a) → All P l
+at_all P l each k d low = let x = at_below l k low in subst P (sym (get_at l k x.0 d x.1)) (each k x.0 x.1)
+
+-- a slice that was lent whole, as its two parts were left
+pub lent_whole : {A : Type 0} (x : A) (xs items : List A) (n : ℕ) → length items ≡ n → length xs + 1 ≡ n → take n (x ∷ (xs ++ drop (suc (length xs)) items)) ≡ x ∷ xs
+lent_whole {A = A} x xs items n all is =
+    ap (λ (l : List A). take n (x ∷ (xs ++ l))) (drop_all (suc (length xs)) items (omega (arith, all, is))) ∙ ap (λ (l : List A). take n (x ∷ l)) (append-nil xs) ∙ take_all n (x ∷ xs) (omega (arith, is))
+
 module _ {S R L : Type 0} where
   -- what one has seen of another, over a third
   pub knows_then : (a b c : Caller S R L) → KnowsOf b a → KnowsOf c b → KnowsOf c a
   knows_then a b c p q = starts_then (front_of a) (front_of b) (front_of c) p q
 
+  -- of what the first callers, as many as `n`, had seen
+  abbrev pub HasGatheredTo : List (Caller S R L) → ℕ → Caller S R L → Type 0
+  HasGatheredTo others n into = (i : ℕ) (a : Caller S R L) → i < n → At others i a → KnowsOf into a
+
+  abbrev pub HaveLearntTo : Caller S R L → ℕ → List (Caller S R L) → Type 0
+  HaveLearntTo from n others = (i : ℕ) (b : Caller S R L) → i < n → At others i b → KnowsOf b from
+
   module _ (is_local : L → View → Type 0) (t : Table S R) where
     -- a caller at rest that hasn't met
     pub met_none : (a : Caller S R L) → IsAtRest is_local t a → HasMet is_local t a a
     met_none a r = record { rest = r; same = same_start a.pass; longer = ([], sym (append-nil (front_of a))); unchanged = refl }
+
+    -- one that told another what it had seen, and learnt nothing
+    pub met_kept : (a b : Caller S R L) → IsPassOf t b.pass → IsResting is_local b → IsSamePass a.pass b.pass → view b.pass ≡ view a.pass → HasMet is_local t a b
+    met_kept a b of resting same kept = record {
+      rest = record { of = of; resting = resting };
+      same = same;
+      longer = ([], ap (λ (v : View). v.front) kept ∙ sym (append-nil (front_of a)));
+      unchanged = kept ∙ ap (λ (f : List Update). record (view a.pass) { front = f }) (sym (ap (λ (v : View). v.front) kept));
+    }
 
     -- one meeting after another
     pub met_then : (a b c : Caller S R L) → HasMet is_local t a b → HasMet is_local t b c → HasMet is_local t a c
@@ -70,15 +101,14 @@ module _ {S R L : Type 0} where
         each (suc i) c d was is = h.each i c d was is
 
     -- one turn of gathering: the caller at this place has met into the first
-    pub gather_more : (before after : List (Caller S R L)) (n : ℕ) (b c into new : Caller S R L) → HaveMet is_local t before after → At after n b → ((i : ℕ) (a : Caller S R L) → i < n → At before i a → KnowsOf into a) → KnowsOf new into → KnowsOf new b
-        → (i : ℕ) (a : Caller S R L) → i < n + 1 → At before i a → KnowsOf new a
-    gather_more before after n b c into new h at so_far longer met i a low was = dite (dec_le (suc i) n)
+    pub gather_more : (before after : List (Caller S R L)) (n : ℕ) (b into new : Caller S R L) → HaveMet is_local t before after → At after n b → HasGatheredTo before n into → KnowsOf new into → KnowsOf new b
+        → HasGatheredTo before (n + 1) new
+    gather_more before after n b into new h at so_far longer met i a low was = dite (dec_le (suc i) n)
         (λ lt. knows_then a into new (so_far i a lt was) longer)
         (λ ge. let here : i ≡ n = omega (arith, ge, low) in knows_then a b new (h.each n a b (subst (λ (z : ℕ). At before z a) here was) at).longer met)
 
     -- and one of spreading
-    pub spread_more : (after : List (Caller S R L)) (n : ℕ) (from c : Caller S R L) → ((i : ℕ) (b : Caller S R L) → i < n → At after i b → KnowsOf b from) → KnowsOf c from
-        → (i : ℕ) (b : Caller S R L) → i < n + 1 → At (set after n c) i b → KnowsOf b from
+    pub spread_more : (after : List (Caller S R L)) (n : ℕ) (from c : Caller S R L) → HaveLearntTo from n after → KnowsOf c from → HaveLearntTo from (n + 1) (set after n c)
     spread_more after n from c so_far new i b low is = ⊎_elim
         (λ x. subst (λ (z : Caller S R L). KnowsOf z from) x.1 new)
         (λ x. so_far i b (let ne = x.0 in omega (arith, low, ne)) x.1)
@@ -98,31 +128,55 @@ module _ {S R L : Type 0} where
 
     -- and they are all passes of the table still
     pub met_passes : (before after : List (Caller S R L)) → HaveMet is_local t before after → AreAllPasses t (passes_of before) → AreAllPasses t (passes_of after)
-    met_passes before after h all = record { each = whole before after h all.each; order = same_order before after h ∙ all.order }
+    met_passes before after h all = record { each = at_all (IsWholePassOf t) (passes_of after) each; order = same_order before after h ∙ all.order }
       where
-        tail_met : (a b : Caller S R L) (before after : List (Caller S R L)) → HaveMet is_local t (a ∷ before) (b ∷ after) → HaveMet is_local t before after
-        tail_met a b before after h = record { many = omega (arith, h.many); each = λ i c d was is. h.each (suc i) c d was is }
-
         still_whole : (a b : Caller S R L) → HasMet is_local t a b → IsWholePassOf t a.pass → IsWholePassOf t b.pass
         still_whole a b m was = record { pass = m.rest.of; whole = ap (λ (v : View). v.others) m.unchanged ∙ was.whole }
 
-        whole : (before after : List (Caller S R L)) → HaveMet is_local t before after → All (IsWholePassOf t) (passes_of before) → All (IsWholePassOf t) (passes_of after)
-        whole before [] h each = tt
-        whole [] (b ∷ after) h each = absurd (omega (arith, h.many))
-        whole (a ∷ before) (b ∷ after) h each = (still_whole a b (h.each 0 a b refl refl) each.0, whole before after (tail_met a b before after h) each.1)
+        each : (i : ℕ) (p : Pass S R) → At (passes_of after) i p → IsWholePassOf t p
+        each i p at =
+            let b = map_at pass_of after i p at in
+            let a = at_below before i (omega (arith, below_at after i b.0 b.1, h.many)) in
+            subst (IsWholePassOf t) b.2 (still_whole a.0 b.0 (h.each i a.0 b.0 a.1 b.1) (all_at (IsWholePassOf t) (passes_of before) all.each i a.0.pass (at_map pass_of before i a.0 a.1)))
 
         same_order : (before after : List (Caller S R L)) → HaveMet is_local t before after → map own_caller (passes_of after) ≡ map own_caller (passes_of before)
         same_order [] [] h = refl
         same_order [] (b ∷ after) h = absurd (omega (arith, h.many))
         same_order (a ∷ before) [] h = absurd (omega (arith, h.many))
-        same_order (a ∷ before) (b ∷ after) h = λ k. (h.each 0 a b refl refl).same.caller k ∷ same_order before after (tail_met a b before after h) k
+        same_order (a ∷ before) (b ∷ after) h =
+            λ k. (h.each 0 a b refl refl).same.caller k ∷ same_order before after record { many = omega (arith, h.many); each = λ i c d was is. h.each (suc i) c d was is } k
 
     -- all passes of a table, at rest
-    pub all_at_rest : (l : List (Caller S R L)) → All (IsWholePassOf t) (passes_of l) → All (IsResting is_local) l → AreAtRest is_local t l
-    all_at_rest [] each resting i c at = absurd (some-ne-none c (sym at))
-    all_at_rest (x ∷ l) each resting zero c at = subst (IsAtRest is_local t) (some-injective x c at) record { of = each.0.pass; resting = resting.0 }
-    all_at_rest (x ∷ l) each resting (suc i) c at = all_at_rest l each.1 resting.1 i c at
+    pub all_at_rest : (l : List (Caller S R L)) → AreAllPasses t (passes_of l) → All (IsResting is_local) l → AreAtRest is_local t l
+    all_at_rest l all resting i c at = record {
+      of = (all_at (IsWholePassOf t) (passes_of l) all.each i c.pass (at_map pass_of l i c at)).pass;
+      resting = all_at (IsResting is_local) l resting i c at;
+    }
 
     pub all_resting : (l : List (Caller S R L)) → AreAtRest is_local t l → All (IsResting is_local) l
-    all_resting [] rest = tt
-    all_resting (x ∷ l) rest = ((rest 0 x refl).resting, all_resting l (λ i c at. rest (suc i) c at))
+    all_resting l rest = at_all (IsResting is_local) l (λ i c at. (rest i c at).resting)
+
+    -- the first caller and the others, before and after all met
+    module _ (x : Caller S R L) (before whole : List (Caller S R L)) (is : whole ≡ x ∷ before) (all : AreAllPasses t (passes_of whole)) (resting : All (IsResting is_local) whole) where
+      at_rest : AreAtRest is_local t (x ∷ before)
+      at_rest = subst (AreAtRest is_local t) is (all_at_rest whole all resting)
+
+      pub first_rests : IsAtRest is_local t x
+      first_rests = at_rest 0 x refl
+
+      pub others_rest : AreAtRest is_local t before
+      others_rest i c at = at_rest (suc i) c at
+
+      module _ (y z : Caller S R L) (middle after : List (Caller S R L)) (first : HasMet is_local t x y) (second : HasMet is_local t y z) (others : HaveMet is_local t before middle) (then : HaveMet is_local t middle after) where
+        pub all_same : HaveMet is_local t whole (z ∷ after)
+        all_same = subst (λ (l : List (Caller S R L)). HaveMet is_local t l (z ∷ after)) (sym is) (have_met_more x z before after (met_then x y z first second) (have_met_then before middle after others then))
+
+        pub all_passes : AreAllPasses t (passes_of (z ∷ after))
+        unfolding all_same
+        all_passes = met_passes whole (z ∷ after) all_same all
+
+        pub all_rest : All (IsResting is_local) (z ∷ after)
+        all_rest = all_resting (z ∷ after) (met_at_rest whole (z ∷ after) all_same)
+
+        pub all_know : HasGathered before y → HaveLearnt y after → HaveAllMet whole (z ∷ after)
+        all_know gathered learnt = subst (λ (l : List (Caller S R L)). HaveAllMet l (z ∷ after)) (sym is) (all_met x y z before middle after first second gathered learnt)

@@ -11,6 +11,7 @@
 
 mod inserting;
 mod list;
+mod meeting;
 mod removing;
 mod shape;
 mod spots;
