@@ -60,10 +60,7 @@ module _ (n m : ℕ) where
   loads ws (Field i f) h = let e : 20 + 5 * n + 8 * (i - 1) + f ≡ 20 + 5 * n + (8 * (i - 1) + f) = omega arith in
       ap (λ (k : ℕ). get_or ws k 0) e ∙ sym (rows_get m (i - 1) f (drop (20 + 5 * n) ws) (omega arith) h.2 ∙ get_or-drop (20 + 5 * n) ws (8 * (i - 1) + f) 0)
 
-  -- the parts that a store at i does not reach
-  abbrev early : (ws : List ℕ) (i v : ℕ) → 4 ≤ i → ℕ → Type 0
-  early ws i v h j = j < 4 → get_or (set ws i v) j 0 ≡ get_or ws j 0
-
+  -- another word than the one that a store reaches
   other : (ws : List ℕ) (i v j : ℕ) → j ≢ i → get_or (set ws i v) j 0 ≡ get_or ws j 0
   other ws i v j h = get_or-set_other ws i j v 0 h
 

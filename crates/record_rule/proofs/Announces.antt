@@ -16,42 +16,25 @@ use Rattle.record_memory.specs.declared.books.Guard.{Guard}
 use Rattle.record_memory.specs.declared.books.Note.{Note}
 use Rattle.record_memory.specs.Memory.{Memory, memory, stretch, address, word_at, put}
 use Rattle.record_memory.proofs.Stores.{address-word_at, stores, stretch_before, stretch_behind, stretch_in}
-use Rattle.record_rule.specs.Records.{Record}
 use Rattle.record_rule.specs.Inputs.{shape_cell, scheme_cell, taken_cell, guard_of, notes_of, roots_of, locks_of, answered_of, offer_of, Outline, outline, shape_input, Start, start_of, trace, scheme_input}
 use Rattle.record_rule.specs.Facts.{At, Moment, ShapeFacts, CoverFacts, of_root, of_held}
 use Rattle.record_rule.specs.Held.{HoldFits, HeldFits}
 use Rattle.record_rule.specs.Laws.{ShapeLaws, CoverLaws, moment, HasStored, SameStart, StartsNow, StartsIf}
 use Rattle.record_rule.specs.Known.{KnownFits}
-use Rattle.record_rule.specs.World.{IsRecent, Places, Parts, Rule, overshoot}
+use Rattle.record_rule.specs.World.{IsRecent, Places, Parts, Rule}
 use Rattle.record_rule.specs.Kinds.{Lawful}
 use Rattle.record_rule.specs.Links.{with_step, seeing, roots_kept}
 use Rattle.record_rule.specs.ControlSteps.{seeing_if, own_store, StoredWord, MayStoreControl, StoredControl}
 use Rattle.record_rule.specs.Recorded.{StepFits}
 use Rattle.record_rule.proofs.Lists.{below_at, one_at, map_set_same}
-use Rattle.record_rule.proofs.Fields.{left_same}
-use Rattle.record_rule.proofs.Quiet.{same_overshoot, past_before, books_after, calm_after}
+use Rattle.record_rule.proofs.Fields.{places_beside}
+use Rattle.record_rule.proofs.Quiet.{places_calm, calm_after}
 use Rattle.record_rule.proofs.Rebuilt.{starts_itself, made_more, not_held, stepped}
 use Rattle.record_rule.proofs.Counts.{counts_calm}
 use Rattle.record_rule.proofs.Steps.{before, given, book, are_whole, noted_within, recent_now, own_behind}
 use Rattle.record_rule.proofs.Safe.{safe}
 use Rattle.record_rule.proofs.Outlines.{each_known}
 use Rattle.record_rule.proofs.Waiting.{none_waits}
-
--- where the records are doesn't depend on an announcement
-announced_places : (setup : Setup) (records : List Record) (books : List Book) (m : Memory) (j value c : ℕ) (b own : Book) → At books c b → own.caller ≡ b.caller → own.mine ≡ b.mine → overshoot own ≡ overshoot b → Places setup records books m
-    → Places setup records (set books c own) (put m (Announced j) value)
-announced_places setup records books m j value c b own at caller mine weight p = let f = p.books_fit c b at in let m' : Memory = put m (Announced j) value in record {
-  many = p.many;
-  rows = p.rows;
-  sound = p.sound;
-  left = λ i r e l. p.left i r e (left_same setup.allocator setup m' m i refl refl l);
-  undrawn = λ i r e q. left_same setup.allocator setup m m' i refl refl (p.undrawn i r e q);
-  drawn = subst (λ (z : ℕ). m.drawn ≤ setup.records + z) (sym (same_overshoot books c b own at weight)) p.drawn;
-  untouched = p.untouched;
-  callers = length-set books c own ∙ p.callers;
-  books_fit = books_after setup m m' records records books c own (λ h. h) (λ d ne. refl)
-      record { number = caller ∙ f.number; mine = mine ∙ f.mine; past = λ h. f.past (past_before b.drawing own.drawing weight h) } p.books_fit;
-}
 
 -- another caller's words
 other_words : (c d k value : ℕ) (l : List ℕ) → k < 4 → d ≢ c → stretch (4 * d) 4 (set l (4 * c + k) value) ≡ stretch (4 * d) 4 l
@@ -204,7 +187,8 @@ module _ (shape : ShapeFacts) (cover : CoverFacts) (shaped : ShapeLaws shape) (c
 
   -- where the records are
   places' : Places setup u.records (set u.books c own) m'
-  places' = subst (Places setup u.records (set u.books c own)) (sym put_is) (announced_places setup u.records u.books m j value c v.own own mine refl refl (calm_after v.own.drawing v.setup.records t tt) u.places)
+  places' = subst (Places setup u.records (set u.books c own)) (sym put_is) (places_beside setup u.records (set u.books c own) m m.epoch (set m.announced j value)
+      (places_calm setup u.records u.books m c v.own own mine refl refl (calm_after v.own.drawing v.setup.records t tt) u.places))
 
   -- the step, and when the guard started
   made' : ((a : ℕ) (b : Step) → At v.own.steps a b → StepFits setup c b) → (a : ℕ) (b : Step) → At (v.own.steps ++ t ∷ []) a b → StepFits setup c b

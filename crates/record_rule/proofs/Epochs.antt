@@ -1,5 +1,5 @@
 -- The epoch is exchanged where the reclaimer allows it.
-use Rattle.std.proofs.Common.{◌≡◌, ℕ, ◌+◌, ◌≤◌, List, length-set, get_or, set, cond, eqb, Bool, true, false, sym, refl, ap, ◌∙◌, subst, inr}
+use Rattle.std.proofs.Common.{◌≡◌, ℕ, List, length-set, get_or, set, cond, eqb, Bool, true, false, sym, refl, ap, ◌∙◌, subst, inr}
 use Rattle.std.proofs.lemmas.Bool.{eqb-true}
 use Rattle.atomic_table.proofs.Lists.{at_map}
 use Rattle.record_memory.specs.declared.steps.Word.{Word}
@@ -11,35 +11,20 @@ use Rattle.record_memory.specs.declared.books.View.{View}
 use Rattle.record_memory.specs.declared.books.Book.{Book}
 use Rattle.record_memory.specs.Memory.{Memory, memory, address, word_at, put}
 use Rattle.record_memory.proofs.Stores.{stores, loads, address-word_at}
-use Rattle.record_rule.specs.Records.{Record}
 use Rattle.record_rule.specs.Inputs.{guard_of, notes_of, roots_of, locks_of, answered_of, offer_of, Outline, scheme_input}
-use Rattle.record_rule.specs.Facts.{At, ShapeFacts, CoverFacts}
+use Rattle.record_rule.specs.Facts.{ShapeFacts, CoverFacts}
 use Rattle.record_rule.specs.Laws.{CoverLaws}
-use Rattle.record_rule.specs.World.{Places, Parts, Rule, overshoot}
+use Rattle.record_rule.specs.World.{Places, Parts, Rule}
 use Rattle.record_rule.specs.Kinds.{made_step, control_step, Lawful}
 use Rattle.record_rule.specs.Links.{with_step}
 use Rattle.record_rule.specs.ControlSteps.{MayExchangeControl}
 use Rattle.record_rule.proofs.Lists.{map_set_same}
-use Rattle.record_rule.proofs.Fields.{left_same}
-use Rattle.record_rule.proofs.Quiet.{same_overshoot, past_before, books_after, calm_after}
+use Rattle.record_rule.proofs.Fields.{places_beside}
+use Rattle.record_rule.proofs.Quiet.{places_calm, calm_after}
 use Rattle.record_rule.proofs.Counts.{counts_calm}
 use Rattle.record_rule.proofs.Rebuilt.{not_held, rebuilt}
 use Rattle.record_rule.proofs.Steps.{before, book, kept_calm}
 use Rattle.record_rule.proofs.Safe.{safe}
-
-epoch_places : (setup : Setup) (records : List Record) (books : List Book) (m : Memory) (value c : ℕ) (b own : Book) → At books c b → own.caller ≡ b.caller → own.mine ≡ b.mine → overshoot own ≡ overshoot b → Places setup records books m → Places setup records (set books c own) (put m Epoch value)
-epoch_places setup records books m value c b own at caller mine weight p = let f = p.books_fit c b at in let m' : Memory = put m Epoch value in record {
-  many = p.many;
-  rows = p.rows;
-  sound = p.sound;
-  left = λ i r e l. p.left i r e (left_same setup.allocator setup m' m i refl refl l);
-  undrawn = λ i r e q. left_same setup.allocator setup m m' i refl refl (p.undrawn i r e q);
-  drawn = subst (λ (z : ℕ). m.drawn ≤ setup.records + z) (sym (same_overshoot books c b own at weight)) p.drawn;
-  untouched = p.untouched;
-  callers = length-set books c own ∙ p.callers;
-  books_fit = books_after setup m m' records records books c own (λ h. h) (λ d ne. refl)
-      record { number = caller ∙ f.number; mine = mine ∙ f.mine; past = λ h. f.past (past_before b.drawing own.drawing weight h) } p.books_fit;
-}
 
 -- what an exchange of a control word tells, which found n
 abbrev pub ToldControl : View → ℕ → ℕ → ℕ → ℕ → View → Type 0
@@ -60,7 +45,7 @@ module _ (shape : ShapeFacts) (cover : CoverFacts) (covering : CoverLaws cover) 
           let put_is : m' ≡ put m0 Epoch new = stores setup.callers setup.records s.words Epoch new u.wide tt in
           let found : m0.epoch ≡ old = sym (loads setup.callers setup.records s.words Epoch tt) ∙ eqb-true n old e in
           rebuilt shape cover setup s u id v at present words' (length-set s.words 1 new ∙ u.wide) u.records own t (not_held setup c t refl (inr refl)) refl refl refl refl refl
-          (subst (Places setup u.records (set u.books c own)) (sym put_is) (epoch_places setup u.records u.books m0 new c v.own own mine refl refl (calm_after v.own.drawing v.setup.records t tt) u.places))
+          (subst (Places setup u.records (set u.books c own)) (sym put_is) (places_beside setup u.records (set u.books c own) m0 new m0.announced (places_calm setup u.records u.books m0 c v.own own mine refl refl (calm_after v.own.drawing v.setup.records t tt) u.places)))
           (subst (Parts shape cover setup) (λ k. record {
             shapes = was.shapes;
             schemes = was.schemes;

@@ -32,6 +32,21 @@ pub left_same : (a : AllocatorName) (setup : Setup) (m m' : Memory) (i : ℕ) �
 left_same Bump setup m m' i d c h = omega arith
 left_same Once setup m m' i d c h = subst (λ (xs : List ℕ). IsLeftBy Once setup record m { cursors = xs } i) (sym c) h
 
+-- where the records are depends neither on the epoch nor on what is announced
+pub places_beside : (setup : Setup) (records : List Record) (books : List Book) (m : Memory) (epoch : ℕ) (announced : List ℕ) → Places setup records books m
+    → Places setup records books record m { epoch = epoch; announced = announced }
+places_beside setup records books m epoch announced p = let m' : Memory = record m { epoch = epoch; announced = announced } in record {
+  many = p.many;
+  rows = p.rows;
+  sound = p.sound;
+  left = λ i r e l. p.left i r e (left_same setup.allocator setup m' m i refl refl l);
+  undrawn = λ i r e q. left_same setup.allocator setup m m' i refl refl (p.undrawn i r e q);
+  drawn = p.drawn;
+  untouched = p.untouched;
+  callers = p.callers;
+  books_fit = λ c b e. let f = p.books_fit c b e in record { number = f.number; mine = f.mine; past = f.past };
+}
+
 -- the record after its owner has stored a word of it
 abbrev pub with_word : ℕ → Standing → Record → ℕ → ℕ → Record
 with_word c s r f value = record r { place = Of c s; row = set r.row f value }
