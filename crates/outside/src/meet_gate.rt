@@ -3,23 +3,24 @@ ghost use Rattle.std.specs.Prelude.{◌≡◌, ◌↔◌, IsTrue, false};
 
 use crate::gate::Gate;
 use crossbeam_utils::CachePadded;
+use std::marker::Model;
 use std::sync::atomic::{AtomicBool, Ordering};
 
-/// One call of a run.
+/// One call of a run, by the numbers that a gate is told.
 #[derive(Clone, Copy, Debug)]
-struct Named {
+struct NumberedCall {
     caller: u32,
     call: u32,
 }
 
-impl Named {
+impl NumberedCall {
     /// The pair of the caller's number and the call's.
     fn of(pair: (u32, u32)) -> Self
         ensures caller { result.caller ≡ pair.0 }
         ensures call { result.call ≡ pair.1 }
     {
         let (caller, call) = pair;
-        Named { caller, call }
+        NumberedCall { caller, call }
     }
 
     /// Whether it is this call.
@@ -34,8 +35,8 @@ impl Named {
 /// at the same time. It waits for a bounded number of turns, so no run hangs in it.
 #[derive(Drop)]
 pub struct MeetGate {
-    held: Named,
-    awaited: Named,
+    held: NumberedCall,
+    awaited: NumberedCall,
     limit: u32,
     /// Whether the awaited call was made. The caller that waits loads it over and over, so nothing else stands on
     /// its cache lines.
@@ -43,18 +44,26 @@ pub struct MeetGate {
     met: AtomicBool,
 }
 
+impl Model for MeetGate {
+    ghost use Rattle.outside.specs.Meeting.{Meeting};
+
+    ghost Value = { Meeting };
+
+    ghost view = { λ g. record { held = g.held; awaited = g.awaited; limit = g.limit } };
+}
+
 impl MeetGate {
     /// Holds up the call `held` until the call `awaited` was made, for at most `limit` turns. Each of the two is a
     /// pair of the caller's number, from 0, and of the call's number within that caller, from 1. One turn is one
-    /// load of a flag: 1,000,000,000 of them take some seconds, and with a limit of 0 nothing is held up.
+    /// load of a flag, so the limit says how long a call is held up at most, and with 0 none is.
     pub fn new(held: (u32, u32), awaited: (u32, u32), limit: u32) -> Self
         ensures held { (result.held.caller ≡ held.0) × (result.held.call ≡ held.1) }
         ensures awaited { (result.awaited.caller ≡ awaited.0) × (result.awaited.call ≡ awaited.1) }
         ensures limit { result.limit ≡ limit }
     {
         MeetGate {
-            held: Named::of(held),
-            awaited: Named::of(awaited),
+            held: NumberedCall::of(held),
+            awaited: NumberedCall::of(awaited),
             limit,
             came: CachePadded::new(AtomicBool::new(false)),
             met: AtomicBool::new(false),
