@@ -23,6 +23,7 @@ use Rattle.report_text.specs.declared.refusal.WorkloadRefusal.{WorkloadRefusal}
 use Rattle.set_model.specs.declared.names.AllocatorName.TheVariants.{Bump}
 use Rattle.set_model.specs.declared.names.ReclaimerName.{ReclaimerName}
 use Rattle.set_model.specs.declared.names.SetName.{SetName}
+use Rattle.set_model.specs.declared.names.SetName.TheVariants.{Plain}
 use Rattle.workload_text.proofs.TextLength.{length-text_of-le}
 use Rattle.workload_text.specs.Limits.{Plan}
 use Rattle.workload_text.specs.Text.{text_of}
@@ -37,6 +38,7 @@ use Rattle.bench_core.specs.Sizes.{sizes_of}
 use Rattle.bench_core.specs.Ending.{AreNoCommand, Counts, Ends, Finds, FindsIn, FindsMade, GaveNoWorkload, GaveWorkload, HasParts, HasText, IsAllowed, IsMade, NamesUnlawful, Reads, Tells, has_full, status_with, output_of, run_of, status_of, status_of_run}
 use Rattle.bench_core.specs.Plays.{AreAlone}
 use Rattle.bench_core.proofs.Alone.{alone_found}
+use Rattle.bench_core.proofs.NeverFull.{run-not_full}
 use Rattle.bench_core.proofs.Telling.{status_of_run-is}
 use Rattle.bench_core.proofs.Verdicts.{is_WordsRefused, is_Unlawful, is_ReadFault, is_TooLong, is_WorkloadRefused, is_OutOfMemory}
 
@@ -308,6 +310,12 @@ module _ {S K : Type 0} {left : S → Option (List ℕ)} {source_faults : S → 
   run r is =
       let there = run_found e.found r (sym e.concludes.run ∙ is) e.finds in
       (done_or_fault 0 (subst IsDone (sym there.0) (status_of_run-is r)), output_of e.found, there.1, λ good. wrote e.found refl good, λ bad. (tells.part bad).1)
+
+  pub never_full : (r : Run) → ended.run ≡ Some r → r.report.set ≡ Plain → has_full r.report.callers ≡ false
+  never_full r is plain = elim (run r is).2 [
+    | inl play ↦ run-not_full play.chosen.set play.chosen.reclaimer play.plan r play.played plain
+    | inr trial ↦ run-not_full trial.chosen.set trial.chosen.reclaimer trial.plan r trial.played plain
+  ]
 
   five_found : (found : Verdict) → status_of found ≡ 5 → (run : Run) × (run_of found ≡ Some run) × (has_full run.report.callers ≡ true)
   five_found verdict.WordsRefused is = absurd (omega arith)

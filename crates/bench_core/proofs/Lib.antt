@@ -1,5 +1,6 @@
 pub mod Alone
 pub mod Clauses
+pub mod NeverFull
 pub mod PlainRuns
 pub mod PlayOrder
 pub mod ReadingLemmas

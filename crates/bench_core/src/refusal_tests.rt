@@ -17,7 +17,7 @@ fn words_in(alloc: Global, line: &'static str) -> Result<Vec<&'static str>, Allo
 }
 
 /// Words that are refused, for what is wrong with them.
-const WORDS: [&str; 62] = [
+const WORDS: [&str; 63] = [
     // No mode, or another spelling of one.
     "",
     "Play --set plain --reclaimer none",
@@ -80,6 +80,7 @@ const WORDS: [&str; 62] = [
     // Fewer records than a hash table has roots.
     "play --set michael --reclaimer none --buckets 8 --records 4",
     "play --set michael --reclaimer none --records 63",
+    "play --set michael --reclaimer none --records 007",
     // What isn't built yet.
     "play --set michael --reclaimer none",
     "play --set michael --reclaimer debra --records 64",
@@ -126,11 +127,16 @@ fn unlawful_pairs_read_nothing(rt: HostRuntime) -> Result<(), Fail> {
         assert_eq!(rt; end.status, 4, "{set} {reclaimer}");
         assert_eq!(rt; end.got.as_slice(), line.as_bytes(), "{set} {reclaimer}");
     }
+    let trial = "trial --set lazy --reclaimer hazard --callers 1 --calls 1 --keys 1 --seed 1";
+    let end = run_on(&rt, alloc, &words_in(alloc, trial)?, b"", &[1], 4096, &[])?;
+    assert_eq!(rt; end.status, 4);
+    let line = b"setbench: lazy under hazard is not lawful\n".as_slice();
+    assert_eq!(rt; end.got.as_slice(), line);
     Ok(())
 }
 
 /// Bytes that are no workload, and why.
-const TEXTS: [(&str, &str); 53] = [
+const TEXTS: [(&str, &str); 62] = [
     // The first line.
     ("setbench 3\n", "line 1: header"),
     ("setbench 0\n", "line 1: header"),
@@ -146,10 +152,14 @@ const TEXTS: [(&str, &str); 53] = [
     ("setbench 2\ncallers 01\n", "line 2: callers"),
     ("setbench 1\ncallers 1\r\n", "line 2: callers"),
     ("setbench 1\ncallers 1 \n", "line 2: callers"),
+    ("setbench 2\ncallers\t1\n", "line 2: callers"),
     ("setbench 1\ncaller 0\n", "line 2: callers"),
     // The third line.
     ("setbench 1\ncallers 2\ncaller 1\n", "line 3: bad line"),
     ("setbench 1\ncallers 1\ncaller 00\n", "line 3: bad line"),
+    ("setbench 1\ncallers 1\ncaller 0\r\n", "line 3: bad line"),
+    ("setbench 1\ncallers 1\ncaller 0 \n", "line 3: bad line"),
+    ("setbench 1\ncallers 1\ncaller\t0\n", "line 3: bad line"),
     ("setbench 1\ncallers 1\ni 5\n", "line 3: bad line"),
     ("setbench 1\ncallers 1\nend\n", "line 3: bad line"),
     // Lines of calls.
@@ -210,6 +220,10 @@ const TEXTS: [(&str, &str); 53] = [
         "line 4: key out of range",
     ),
     (
+        "setbench 1\ncallers 1\ncaller 0\ni 0\ni 1099511627774\nend\n",
+        "line 5: key out of range",
+    ),
+    (
         "setbench 1\ncallers 1\ncaller 0\ns 5\nr 9999999999999999999999999999999999999999\nend\n",
         "line 5: key out of range",
     ),
@@ -224,6 +238,14 @@ const TEXTS: [(&str, &str); 53] = [
     ),
     (
         "setbench 2\ncallers 1\ncaller 0\nPhase\nend\n",
+        "line 4: bad line",
+    ),
+    (
+        "setbench 2\ncallers 1\ncaller 0\nphase\r\nend\n",
+        "line 4: bad line",
+    ),
+    (
+        "setbench 2\ncallers 1\ncaller 0\nphase \nend\n",
         "line 4: bad line",
     ),
     (
@@ -259,6 +281,14 @@ const TEXTS: [(&str, &str); 53] = [
     ("setbench 1\ncallers 1\ncaller 0\nEnd\n", "line 4: bad line"),
     (
         "setbench 1\ncallers 1\ncaller 0\nend \n",
+        "line 4: bad line",
+    ),
+    (
+        "setbench 1\ncallers 1\ncaller 0\nend\r\n",
+        "line 4: bad line",
+    ),
+    (
+        "setbench 1\ncallers 2\ncaller 0\ncaller 1\r\n",
         "line 4: bad line",
     ),
     (

@@ -1,7 +1,7 @@
 // The program over sources and sinks in memory.
 
 use super::*;
-use outside::{FreeGate, Gate, MemorySink, MemorySource, SteadySink, SteadySource};
+use outside::{FreeGate, Gate, MeetGate, MemorySink, MemorySource, SteadySink, SteadySource};
 use std::alloc::{AllocError, Global};
 use std::sync::Wait;
 use std::sync::atomic::{AtomicU32, Ordering};
@@ -142,6 +142,31 @@ fn tells_the_gate_of_each_call_in_order(rt: HostRuntime) -> Result<(), Fail> {
     let due = [100, 101, 110, 111, 200, 201, 300, 301, 210, 211, 310, 311];
     for (i, wanted) in due.iter().enumerate() {
         assert_eq!(rt; gate.notes[i].load(Ordering::SeqCst), *wanted, "place {i}");
+    }
+    Ok(())
+}
+
+// A call that is held up finds the awaited one made exactly where the order of play has it before: phase after phase,
+// and in each phase caller after caller.
+#[test]
+fn plays_one_caller_after_another(rt: HostRuntime) -> Result<(), Fail> {
+    let alloc = rt.alloc();
+    let text = "setbench 1\ncallers 2\ncaller 0\ni 1\ncaller 1\ni 2\ns 2\nend\n";
+    let rows = [
+        (text, (0, 1), (1, 2), false),
+        (text, (1, 1), (0, 1), true),
+        (PHASES, (0, 1), (1, 1), false),
+        (PHASES, (0, 2), (1, 1), true),
+        (PHASES, (1, 1), (0, 2), false),
+    ];
+    let words = words_of(alloc, &COMMAND)?;
+    for (text, held, awaited, meets) in rows {
+        let gate = MeetGate::new(held, awaited, 100);
+        let mut source = SteadySource::new(text.as_bytes().to_vec(alloc)?);
+        let mut sink = SteadySink::new();
+        let ended = setbench(&rt, alloc, &words, &mut source, &mut sink, &gate);
+        assert_eq!(rt; ended.status, 0);
+        assert_eq!(rt; gate.met(), meets, "at {held:?}");
     }
     Ok(())
 }

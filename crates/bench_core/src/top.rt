@@ -11,6 +11,7 @@ ghost use Rattle.report_text.specs.LineTexts.{checked_text, refusal_text};
 ghost use Rattle.report_text.specs.Writing.{Wrote, WrotePart};
 ghost use Rattle.report_text.specs.declared.refusal.Refusal.TheVariants as refusal;
 ghost use Rattle.report_text.specs.declared.refusal.WorkloadRefusal.{WorkloadRefusal};
+ghost use Rattle.set_model.specs.declared.names.SetName.TheVariants.{Plain};
 ghost use Rattle.workload_text.specs.Limits.{Plan};
 ghost use Rattle.workload_text.specs.Text.{text_of};
 ghost use Rattle.bench_core.specs.Clauses.{AreAllowed, AreNotRead, AreRead, AreUnlawful, ArePlayed, GaveRefused, GaveSomeWorkload, HoldsWorkload, IsDone, IsQuiet, IsRunOf, IsStopped, NamesPair};
@@ -85,6 +86,9 @@ pub fn setbench<T: Threads + Wait + Sync, S: Source, K: Sink, G: Gate + Sync>(
         → (run : Run) → result.run ≡ Some run → has_full run.report.callers ≡ false → AreAlone run.report.callers }
     ensures full { (result.status ≡ 5) ↔ ((run : Run) × (result.run ≡ Some run)
         × (has_full run.report.callers ≡ true) × (result.status ≢ 7)) }
+
+    // A plain set needs no records, so no call on one is answered full.
+    ensures never_full { (run : Run) → result.run ≡ Some run → run.report.set ≡ Plain → has_full run.report.callers ≡ false }
 
     // What is written where no run is told of: the line of a refusal, that of `check`, or a workload's text.
     ensures words_line { result.status ≡ 2 → Wrote K.got sink.old sink.new (refusal_text refusal.Words) }

@@ -9,6 +9,7 @@
 #![tactic(auto)]
 
 mod gate;
+mod meet_gate;
 mod memory_sink;
 mod memory_source;
 mod schedule;
@@ -19,6 +20,7 @@ mod std_edge;
 mod tests;
 
 pub use gate::{FreeGate, Gate};
+pub use meet_gate::MeetGate;
 pub use memory_sink::{MemorySink, SteadySink};
 pub use memory_source::{MemorySource, SteadySource};
 pub use sink::{Putting, Sink};

@@ -1,12 +1,13 @@
 // What the sources and sinks answer, call by call. That each failure raises a count is proved.
 use crate::{
-    FreeGate, Gate, MemorySink, MemorySource, Putting, Sink, Source, StdSink, StdSource,
+    FreeGate, Gate, MeetGate, MemorySink, MemorySource, Putting, Sink, Source, StdSink, StdSource,
     SteadySink, SteadySource, Taking,
 };
 use std::alloc::Global;
-use std::io;
 use std::process::Abort;
+use std::sync::atomic::{AtomicBool, Ordering};
 use std::test::Fail;
+use std::{io, thread};
 
 /// An answer of a source, and the bytes that it gave.
 type Given = (Taking, &'static [u8]);
@@ -174,4 +175,62 @@ fn free_gate() {
     let gate = FreeGate;
     gate.before(0, 1);
     gate.after(0, 1);
+}
+
+/// Makes the call at the gate, with nothing in it.
+fn pass(gate: &impl Gate, caller: u32, call: u32) {
+    gate.before(caller, call);
+    gate.after(caller, call);
+}
+
+// Calls that come one after another, as on one thread.
+#[test]
+fn meet_gate_in_turn(rt: HostRuntime) {
+    // The awaited call comes first, and then others that share a number with it or with the one that is held up.
+    let gate = MeetGate::new((0, 1), (1, 2), 3);
+    for (caller, call) in [(1, 1), (2, 2), (1, 2), (0, 2), (1, 1)] {
+        pass(&gate, caller, call);
+        assert!(rt; !gate.met());
+    }
+    pass(&gate, 0, 1);
+    assert!(rt; gate.met());
+
+    // It comes too late: the wait ends by itself.
+    let gate = MeetGate::new((0, 1), (1, 2), 1000);
+    for (caller, call) in [(0, 1), (1, 1), (1, 2), (0, 2)] {
+        pass(&gate, caller, call);
+        assert!(rt; !gate.met());
+    }
+
+    // The awaited call has begun, and isn't made yet.
+    let gate = MeetGate::new((0, 1), (1, 1), 3);
+    gate.before(1, 1);
+    pass(&gate, 0, 1);
+    assert!(rt; !gate.met());
+
+    // With no turn it doesn't look.
+    let gate = MeetGate::new((0, 1), (1, 1), 0);
+    pass(&gate, 1, 1);
+    pass(&gate, 0, 1);
+    assert!(rt; !gate.met());
+}
+
+// Where the wait ended in time, what the other thread did ahead of its `after` is seen. The wait ends in every schedule.
+#[test]
+fn meet_gate_between_threads(rt: HostRuntime) {
+    let gate = MeetGate::new((0, 1), (1, 1), 1_000_000_000);
+    let (shared, made) = (&gate, &AtomicBool::new(false));
+    let (seen, _) = thread::join(
+        &rt,
+        || {
+            shared.before(0, 1);
+            made.load(Ordering::SeqCst)
+        },
+        || {
+            shared.before(1, 1);
+            made.store(true, Ordering::SeqCst);
+            shared.after(1, 1);
+        },
+    );
+    assert!(rt; seen || !gate.met());
 }

@@ -75,3 +75,6 @@ returns-clause-complete g c = ending.complete c.end_of.ensures
 
 pub returns-clause-alone : goal.returns-clause-alone
 returns-clause-alone g c = ending.alone c.end_of.ensures
+
+pub returns-clause-never_full : goal.returns-clause-never_full
+returns-clause-never_full g c = ending.never_full c.end_of.ensures

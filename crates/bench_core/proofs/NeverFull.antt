@@ -1,0 +1,61 @@
+-- On a plain set no call is answered full.
+use Rattle.std.proofs.Common.{◌≡◌, ℕ, suc, Bool, true, false, cond, eqb, Some, List, [], ◌∷◌, ◌++◌, slice_get, refl, sym, ap, ◌∙◌}
+use Rattle.std.proofs.lemmas.Bool.{false≢true}
+use Rattle.set_model.specs.declared.calls.Call.{Call}
+use Rattle.set_model.specs.declared.calls.Reply.{Reply}
+use Rattle.set_model.specs.declared.calls.Reply.TheVariants.{Yes, No, Full}
+use Rattle.set_model.specs.declared.names.ReclaimerName.{ReclaimerName}
+use Rattle.set_model.specs.declared.names.SetName.{SetName}
+use Rattle.set_model.specs.declared.names.SetName.TheVariants.{Plain, Michael, Lazy}
+use Rattle.set_model.specs.Keys.{Keys, empty}
+use Rattle.set_model.specs.Machine.{answer_of, keys_after, keys_after_all, reply_of_answer, replies_of}
+use Rattle.report_text.specs.declared.report.Played.{Played}
+use Rattle.report_text.specs.declared.report.Report.{Report}
+use Rattle.workload_text.specs.Limits.{Plan}
+use Rattle.bench_core.specs.declared.ending.Run.{Run}
+use Rattle.bench_core.specs.Ending.{IsRun, any_full, has_full}
+use Rattle.bench_core.specs.Plays.{IsPlainRun, Piece, order_of, told_to}
+
+any_full-append : (xs ys : List Reply) → any_full xs ≡ false → any_full ys ≡ false → any_full (xs ++ ys) ≡ false
+any_full-append [] ys first second = second
+any_full-append (Yes ∷ xs) ys first second = any_full-append xs ys first second
+any_full-append (No ∷ xs) ys first second = any_full-append xs ys first second
+any_full-append (Full ∷ xs) ys first second = absurd (false≢true (sym first))
+
+answer-not_full : (answer : Bool) (replies : List Reply) → any_full replies ≡ false → any_full (reply_of_answer answer ∷ replies) ≡ false
+answer-not_full true replies rest = rest
+answer-not_full false replies rest = rest
+
+replies-not_full : (calls : List Call) (keys : Keys) → any_full (replies_of calls keys) ≡ false
+replies-not_full [] keys = refl
+replies-not_full (call ∷ calls) keys =
+    let later = keys_after call keys in
+    answer-not_full (answer_of call keys) (replies_of calls later) (replies-not_full calls later)
+
+own-not_full : (own : Bool) (replies : List Reply) → any_full replies ≡ false → any_full (cond own replies []) ≡ false
+own-not_full true replies is = is
+own-not_full false replies is = refl
+
+told-not_full : (caller : ℕ) (pieces : List Piece) (keys : Keys) → any_full (told_to caller pieces keys) ≡ false
+told-not_full caller [] keys = refl
+told-not_full caller (piece ∷ pieces) keys =
+    let own = eqb piece.caller caller in
+    let replies = replies_of piece.calls keys in
+    let later = keys_after_all piece.calls keys in
+    any_full-append (cond own replies []) (told_to caller pieces later) (own-not_full own replies (replies-not_full piece.calls keys)) (told-not_full caller pieces later)
+
+callers-not_full : (callers : List Played) → ((caller : ℕ) (played : Played) → slice_get callers caller ≡ Some played → any_full played.replies ≡ false)
+    → has_full callers ≡ false
+callers-not_full [] each = refl
+callers-not_full (played ∷ callers) each = rw (each 0 played refl) (callers-not_full callers (λ caller one there. each (suc caller) one there))
+
+plain-not_full : (plan : Plan) (report : Report) → IsPlainRun plan report → has_full report.callers ≡ false
+plain-not_full plan report played =
+    callers-not_full report.callers (λ caller one there. ap any_full (played.replies caller one there) ∙ told-not_full caller (order_of plan.lists) empty)
+
+-- a set that joins needs that its name isn't the plain set's
+pub run-not_full : (set : SetName) (reclaimer : ReclaimerName) (plan : Plan) (run : Run) → IsRun set reclaimer plan run → run.report.set ≡ Plain
+    → has_full run.report.callers ≡ false
+run-not_full Plain reclaimer plan run played plain = plain-not_full plan run.report played
+run-not_full Michael reclaimer plan run played plain = absurd played
+run-not_full Lazy reclaimer plan run played plain = absurd played
