@@ -1,6 +1,6 @@
 // The steps of two callers, cut into one another: each is inside one guard meanwhile.
-ghost use Rattle.std.specs.Prelude.{◌≡◌, ◌×◌, IfSome, All, MatchOption, Some};
-ghost use Rattle.record_table.specs.Handles.{setup_of, view, IsPassOf, IsSamePass};
+ghost use Rattle.std.specs.Prelude.{◌≡◌, IfSome, All, MatchOption};
+ghost use Rattle.record_table.specs.Handles.{setup_of, view, IsPassOf};
 ghost use Rattle.record_table.specs.Closing.{AreAllPasses};
 ghost use Rattle.reclaim_api.specs.Guarding.{IsSameCaller};
 ghost use Rattle.record_rule.specs.HandingOut.{IsOwnOf};
