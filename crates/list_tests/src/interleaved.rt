@@ -48,6 +48,14 @@ fn close(alloc: Global, list: TestList, zero: TestCaller, one: TestCaller) -> Re
     Ok(list.close(callers))
 }
 
+// A word of the closed table, and 0 behind its end.
+fn word(closed: &Closed, at: usize) -> u64 {
+    match closed.words().get(at) {
+        Some(word) => *word,
+        None => 0,
+    }
+}
+
 // Links the record where the walk ended, if the key was absent there, which decides the insertion of key 2.
 // `Some`: it isn't linked.
 fn link_there<'a>(guard: &mut TestGuard<'a>, spot: Option<Spot>, own: Own) -> Option<Own>
@@ -281,14 +289,13 @@ fn an_insertion_goes_on_behind_one_that_came_between(rt: HostRuntime) -> Result<
     let counts = list.counts(&one);
     assert_eq!(rt; (counts.drawn, counts.spare, counts.retired), (1, 0, 0));
     let closed = close(rt.alloc(), list, zero, one)?;
-    let words = closed.words();
     let own = 7u64 << 44;
     // The root leads to the third record with key 1, and that to the second with key 2.
-    assert_eq!(rt; words[30 + 3], own + (7 << 20) + 3);
-    assert_eq!(rt; words[30 + 16 + 4], own + 1);
-    assert_eq!(rt; words[30 + 16 + 3], own + (7 << 20) + 2);
-    assert_eq!(rt; words[30 + 8 + 4], own + 2);
-    assert_eq!(rt; words[30 + 8 + 3], own);
+    assert_eq!(rt; word(&closed, 30 + 3), own + (7 << 20) + 3);
+    assert_eq!(rt; word(&closed, 30 + 16 + 4), own + 1);
+    assert_eq!(rt; word(&closed, 30 + 16 + 3), own + (7 << 20) + 2);
+    assert_eq!(rt; word(&closed, 30 + 8 + 4), own + 2);
+    assert_eq!(rt; word(&closed, 30 + 8 + 3), own);
     Ok(())
 }
 
@@ -308,12 +315,11 @@ fn a_removal_goes_on_behind_one_that_came_between(rt: HostRuntime) -> Result<(),
     let counts = list.counts(&one);
     assert_eq!(rt; (counts.drawn, counts.retired, counts.limbo), (0, 1, 1));
     let closed = close(rt.alloc(), list, zero, one)?;
-    let words = closed.words();
     let own = 7u64 << 44;
     // The root leads nowhere. The second record is retired, and its link keeps the mark.
-    assert_eq!(rt; words[30 + 3], own);
-    assert_eq!(rt; words[30 + 8 + 2], own);
-    assert_eq!(rt; words[30 + 8 + 3], own + (1 << 40));
+    assert_eq!(rt; word(&closed, 30 + 3), own);
+    assert_eq!(rt; word(&closed, 30 + 8 + 2), own);
+    assert_eq!(rt; word(&closed, 30 + 8 + 3), own + (1 << 40));
     Ok(())
 }
 
@@ -334,10 +340,9 @@ fn a_walk_takes_out_what_another_one_marked(rt: HostRuntime) -> Result<(), Fail>
     let counts = list.counts(&one);
     assert_eq!(rt; (counts.drawn, counts.retired, counts.limbo), (0, 1, 1));
     let closed = close(rt.alloc(), list, zero, one)?;
-    let words = closed.words();
     let own = 7u64 << 44;
-    assert_eq!(rt; words[30 + 3], own);
-    assert_eq!(rt; words[30 + 8 + 2], own);
-    assert_eq!(rt; words[30 + 8 + 3], own + (1 << 40));
+    assert_eq!(rt; word(&closed, 30 + 3), own);
+    assert_eq!(rt; word(&closed, 30 + 8 + 2), own);
+    assert_eq!(rt; word(&closed, 30 + 8 + 3), own + (1 << 40));
     Ok(())
 }
