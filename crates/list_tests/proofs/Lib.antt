@@ -1,1 +1,2 @@
 mod Popping
+mod Pairs

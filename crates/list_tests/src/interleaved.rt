@@ -1,6 +1,6 @@
 // The steps of two callers, cut into one another: each is inside one guard meanwhile.
-ghost use Rattle.std.specs.Prelude.{◌≡◌, ◌×◌, IfSome, All, MatchOption, Some};
-ghost use Rattle.record_table.specs.Handles.{setup_of, view, IsPassOf, IsSamePass};
+ghost use Rattle.std.specs.Prelude.{◌≡◌, IfSome, All, MatchOption};
+ghost use Rattle.record_table.specs.Handles.{setup_of, view, IsPassOf};
 ghost use Rattle.record_table.specs.Closing.{AreAllPasses};
 ghost use Rattle.reclaim_api.specs.Guarding.{IsSameCaller};
 ghost use Rattle.record_rule.specs.HandingOut.{IsOwnOf};
@@ -33,7 +33,11 @@ fn both(list: &TestList, mut callers: Vec<TestCaller>) -> Option<(TestCaller, Te
 {
     let one = callers.pop()?;
     let zero = callers.pop()?;
-    if callers.is_empty() { Some((zero, one)) } else { None }
+    if callers.is_empty() {
+        Some((zero, one))
+    } else {
+        None
+    }
 }
 
 // Ends the list.
@@ -42,6 +46,14 @@ fn close(alloc: Global, list: TestList, zero: TestCaller, one: TestCaller) -> Re
 {
     let callers = Vec::from_array(alloc, [zero, one])?;
     Ok(list.close(callers))
+}
+
+// A word of the closed table, and 0 behind its end.
+fn word(closed: &Closed, at: usize) -> u64 {
+    match closed.words().get(at) {
+        Some(word) => *word,
+        None => 0,
+    }
 }
 
 // Links the record where the walk ended, if the key was absent there, which decides the insertion of key 2.
@@ -55,8 +67,12 @@ fn link_there<'a>(guard: &mut TestGuard<'a>, spot: Option<Spot>, own: Own) -> Op
     ensures same { IsSameGuard guard.old guard.new }
     ensures own { IfSome result (λ own. IsOwnOf (view guard.new.caller.now.pass) own) }
 {
-    let Some(spot) = spot else { return Some(own); };
-    let Spot::Absent { before, next } = spot else { return Some(own); };
+    let Some(spot) = spot else {
+        return Some(own);
+    };
+    let Spot::Absent { before, next } = spot else {
+        return Some(own);
+    };
     match link_record(guard, 0, 2, before, next, own) {
         Ok(()) => None,
         Err(own) => Some(own),
@@ -71,8 +87,12 @@ fn search_absent<'a>(guard: &mut TestGuard<'a>) -> bool
     ensures same { IsSameGuard guard.old guard.new }
 {
     let mut hops = 0;
-    let Some(spot) = find(guard, 0, 1, 10, &mut hops) else { return false; };
-    let Spot::Absent { .. } = spot else { return false; };
+    let Some(spot) = find(guard, 0, 1, 10, &mut hops) else {
+        return false;
+    };
+    let Spot::Absent { .. } = spot else {
+        return false;
+    };
     guard.place(Call::Search(1), false);
     true
 }
@@ -85,8 +105,12 @@ fn remove_absent<'a>(guard: &mut TestGuard<'a>) -> bool
     ensures same { IsSameGuard guard.old guard.new }
 {
     let mut hops = 0;
-    let Some(spot) = find(guard, 0, 1, 10, &mut hops) else { return false; };
-    let Spot::Absent { .. } = spot else { return false; };
+    let Some(spot) = find(guard, 0, 1, 10, &mut hops) else {
+        return false;
+    };
+    let Spot::Absent { .. } = spot else {
+        return false;
+    };
     guard.place(Call::Remove(1), false);
     true
 }
@@ -114,10 +138,14 @@ fn insert_between<'a>(
     let mut hops = 0;
     let spot = find(guard, 0, 2, 10, &mut hops);
     let other = list.insert(one, 0, 1, 10);
-    let Some(own) = link_there(guard, spot, own) else { return (other, false, true); };
+    let Some(own) = link_there(guard, spot, own) else {
+        return (other, false, true);
+    };
     let mut more = 0;
     let spot = find(guard, 0, 2, 10, &mut more);
-    let Some(own) = link_there(guard, spot, own) else { return (other, true, true); };
+    let Some(own) = link_there(guard, spot, own) else {
+        return (other, true, true);
+    };
     guard.give_back(own);
     (other, true, false)
 }
@@ -161,8 +189,17 @@ fn remove_between<'a>(
     ensures one_same { IsSameCaller one.old.pass one.new.pass }
 {
     let mut hops = 0;
-    let Some(spot) = find(guard, 0, 1, 10, &mut hops) else { return None; };
-    let Spot::Present { before: _, at, link } = spot else { return None; };
+    let Some(spot) = find(guard, 0, 1, 10, &mut hops) else {
+        return None;
+    };
+    let Spot::Present {
+        before: _,
+        at,
+        link,
+    } = spot
+    else {
+        return None;
+    };
     let other = list.remove(one, 0, 1, 10);
     let marked = mark(guard, 0, 1, &at, link);
     let absent = remove_absent(guard);
@@ -199,8 +236,12 @@ fn mark_between<'a, 'b>(
     ensures other_same { IsSameGuard other.old other.new }
 {
     let mut hops = 0;
-    let Some(spot) = find(guard, 0, 1, 10, &mut hops) else { return None; };
-    let Spot::Present { before, at, link } = spot else { return None; };
+    let Some(spot) = find(guard, 0, 1, 10, &mut hops) else {
+        return None;
+    };
+    let Spot::Present { before, at, link } = spot else {
+        return None;
+    };
     if !mark(guard, 0, 1, &at, link) {
         return None;
     }
@@ -248,14 +289,13 @@ fn an_insertion_goes_on_behind_one_that_came_between(rt: HostRuntime) -> Result<
     let counts = list.counts(&one);
     assert_eq!(rt; (counts.drawn, counts.spare, counts.retired), (1, 0, 0));
     let closed = close(rt.alloc(), list, zero, one)?;
-    let words = closed.words();
     let own = 7u64 << 44;
     // The root leads to the third record with key 1, and that to the second with key 2.
-    assert_eq!(rt; words[30 + 3], own + (7 << 20) + 3);
-    assert_eq!(rt; words[30 + 16 + 4], own + 1);
-    assert_eq!(rt; words[30 + 16 + 3], own + (7 << 20) + 2);
-    assert_eq!(rt; words[30 + 8 + 4], own + 2);
-    assert_eq!(rt; words[30 + 8 + 3], own);
+    assert_eq!(rt; word(&closed, 30 + 3), own + (7 << 20) + 3);
+    assert_eq!(rt; word(&closed, 30 + 16 + 4), own + 1);
+    assert_eq!(rt; word(&closed, 30 + 16 + 3), own + (7 << 20) + 2);
+    assert_eq!(rt; word(&closed, 30 + 8 + 4), own + 2);
+    assert_eq!(rt; word(&closed, 30 + 8 + 3), own);
     Ok(())
 }
 
@@ -264,7 +304,10 @@ fn a_removal_goes_on_behind_one_that_came_between(rt: HostRuntime) -> Result<(),
     let first = Generation::new(7).ok_or("a generation")?;
     let (list, callers) = TestList::prepare(rt.alloc(), 2, 2, first, 1)?;
     let (mut zero, mut one) = both(&list, callers).ok_or("two callers")?;
-    assert_eq!(rt; insert_first(&list, &mut zero, &one), InsertAnswer::Done(true));
+    assert_eq!(rt;
+        insert_first(&list, &mut zero, &one),
+        InsertAnswer::Done(true)
+    );
     let came = remove_around(&list, &mut zero, &mut one);
     assert_eq!(rt; came, Some((LookAnswer::Done(true), false, true)));
     let counts = list.counts(&zero);
@@ -272,12 +315,11 @@ fn a_removal_goes_on_behind_one_that_came_between(rt: HostRuntime) -> Result<(),
     let counts = list.counts(&one);
     assert_eq!(rt; (counts.drawn, counts.retired, counts.limbo), (0, 1, 1));
     let closed = close(rt.alloc(), list, zero, one)?;
-    let words = closed.words();
     let own = 7u64 << 44;
     // The root leads nowhere. The second record is retired, and its link keeps the mark.
-    assert_eq!(rt; words[30 + 3], own);
-    assert_eq!(rt; words[30 + 8 + 2], own);
-    assert_eq!(rt; words[30 + 8 + 3], own + (1 << 40));
+    assert_eq!(rt; word(&closed, 30 + 3), own);
+    assert_eq!(rt; word(&closed, 30 + 8 + 2), own);
+    assert_eq!(rt; word(&closed, 30 + 8 + 3), own + (1 << 40));
     Ok(())
 }
 
@@ -286,7 +328,10 @@ fn a_walk_takes_out_what_another_one_marked(rt: HostRuntime) -> Result<(), Fail>
     let first = Generation::new(7).ok_or("a generation")?;
     let (list, callers) = TestList::prepare(rt.alloc(), 2, 2, first, 1)?;
     let (mut zero, mut one) = both(&list, callers).ok_or("two callers")?;
-    assert_eq!(rt; insert_first(&list, &mut zero, &one), InsertAnswer::Done(true));
+    assert_eq!(rt;
+        insert_first(&list, &mut zero, &one),
+        InsertAnswer::Done(true)
+    );
     let came = remove_helped(&list, &mut zero, &mut one);
     assert_eq!(rt; came, Some((true, false)));
     // Who took the record out retired it, and who marked it didn't.
@@ -295,10 +340,9 @@ fn a_walk_takes_out_what_another_one_marked(rt: HostRuntime) -> Result<(), Fail>
     let counts = list.counts(&one);
     assert_eq!(rt; (counts.drawn, counts.retired, counts.limbo), (0, 1, 1));
     let closed = close(rt.alloc(), list, zero, one)?;
-    let words = closed.words();
     let own = 7u64 << 44;
-    assert_eq!(rt; words[30 + 3], own);
-    assert_eq!(rt; words[30 + 8 + 2], own);
-    assert_eq!(rt; words[30 + 8 + 3], own + (1 << 40));
+    assert_eq!(rt; word(&closed, 30 + 3), own);
+    assert_eq!(rt; word(&closed, 30 + 8 + 2), own);
+    assert_eq!(rt; word(&closed, 30 + 8 + 3), own + (1 << 40));
     Ok(())
 }

@@ -22,7 +22,7 @@ pub may_link : (u v w : View) (a b d : RefParts) (key number link : ℕ) (expect
     → (row : List ℕ) × (next : Option Near) × HasOwn w d row × IsNextOf w expected.target next × MayLink (at_root key) 3 expected (drop 3 row) (Some (Insert number))
 may_link u v w a b d key number link expected same again is leads free fits has first second =
     let made = filled_record u v w a key None has (subst (λ k. v ≡ stored u a.index 4 (packed_number a.generation k)) is first)
-        (subst (λ (z : RefParts × ℕ). w ≡ stored v z.0.index 3 (packed_number z.0.generation z.1)) (λ k. (same k, leads k)) second) in (
+    (subst (λ (z : RefParts × ℕ). w ≡ stored v z.0.index 3 (packed_number z.0.generation z.1)) (λ k. (same k, leads k)) second) in (
       made.0,
       None,
       subst (λ (r : RefParts). HasOwn w r made.0) (sym (again ∙ same)) made.1,

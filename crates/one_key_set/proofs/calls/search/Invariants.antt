@@ -1,12 +1,15 @@
+use Rattle.record_table.specs.Handles.{view}
+use Rattle.manager.specs.Callers.{AnswersNone}
 use Rattle.manager.specs.Guards.{IsAtWork}
-use Rattle.set_calls.specs.Going.{GoesOn}
+use Rattle.set_calls.specs.Going.{IsSameGuard}
 use Rattle.one_key_set.proofs.calls.search.Given as goal
 
 -- no try was answered yet
 abbrev pub invariant-loop-left : goal.invariant-loop-left
 invariant-loop-left g l = record {
   at_work : IsAtWork l.guard;
-  on : GoesOn l.fn.guard l.guard;
+  same : IsSameGuard l.fn.guard l.guard;
+  answers : AnswersNone (view l.fn.guard.caller.now.pass) (view l.guard.caller.now.pass);
 }
 
 abbrev pub decreases-loop-left : goal.decreases-loop-left
