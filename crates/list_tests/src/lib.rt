@@ -6,6 +6,8 @@
 mod budgets;
 #[cfg(test)]
 mod in_turn;
+#[cfg(test)]
+mod interleaved;
 mod playing;
 
 pub use playing::{TestCaller, TestList, insert, last_caller, last_two, remove, search};

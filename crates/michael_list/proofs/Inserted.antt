@@ -1,9 +1,7 @@
 -- What the steps of an insertion leave.
 use Rattle.std.proofs.Common.{◌≡◌, ◌≤◌, ◌+◌, ℕ, List, [], ◌∷◌, ◌++◌, append_assoc, Option, Some, None, Result, Ok, Err, MatchResult, true, false, sym, refl, ◌∙◌, subst, arith}
 use Rattle.set_model.specs.declared.calls.Call.TheVariants.{Insert}
-use Rattle.set_model.specs.declared.calls.InsertAnswer.{InsertAnswer}
 use Rattle.set_model.specs.declared.calls.InsertAnswer.TheVariants.{Done, Full, Again}
-use Rattle.record_memory.specs.declared.books.View.{View}
 use Rattle.row_words.specs.Refs.{RefParts, LinkParts}
 use Rattle.record_table.specs.declared.passes.Pass.{Pass}
 use Rattle.record_table.specs.declared.nodes.Held.{Held}
@@ -17,15 +15,12 @@ use Rattle.alloc_api.specs.declared.Allocator.{Ghosts as OfAllocator}
 use Rattle.pool.specs.declared.Pool.{Ghosts as OfPool}
 use Rattle.record_pieces.specs.Events.{Event, took, refused, placed}
 use Rattle.manager.specs.declared.types.Guard.{Guard}
-use Rattle.manager.specs.Callers.{AnswersNone}
 use Rattle.manager.specs.Guards.{Did, DidAll}
+use Rattle.set_calls.proofs.Going.{did_one}
 use Rattle.michael_list.specs.declared.spots.Spot.TheVariants.{Present, Absent}
 use Rattle.michael_list.specs.Walks.{Finds}
 use Rattle.michael_list.specs.Pieces.{HasRecord, gets, has, back, links, Insertings, more, Inserts, adds, has_it, is_full, again}
 use Rattle.michael_list.specs.Knowing.{IsBeyond}
-use Rattle.michael_list.specs.Answers.{InsertTells}
-use Rattle.michael_list.proofs.Answering.{none_then, read_since, decided_between}
-use Rattle.michael_list.proofs.Going.{did_one}
 use Rattle.michael_list.proofs.Standing.{stands_held}
 
 -- a record that the call has from an earlier try
@@ -69,10 +64,3 @@ module _ (root key budget before after made : ℕ) (sum : after ≡ before + mad
     pub was_refused : (own left : RefParts) (gs : List Event) (other : LinkParts) → left ≡ own → HasRecord own hand gs → Insertings root key after (Some left) (ds ++ (fs ++ (gs ++ links key node next own (Some other))))
     was_refused own left gs other same record_is =
         subst (λ (z : ℕ × RefParts × List Event). Insertings root key z.0 (Some z.1) z.2) (λ k. (sym sum k, sym same k, behind_all ds fs gs (links key node next own (Some other)) k)) (more other tries finds record_is)
-
--- tries that answer none may come before the one that is answered
-pub insertion_since : (u v w : View) (key : ℕ) (answer : InsertAnswer) → v.own.caller ≡ u.own.caller → v.setup ≡ u.setup → AnswersNone u v → InsertTells key answer v w → InsertTells key answer u w
-insertion_since u v w key (Done true) same setup none tells = decided_between u v w w (Insert key) same none tells (record { answered = refl; front = refl })
-insertion_since u v w key (Done false) same setup none tells = read_since u v w (Insert key) false setup none tells
-insertion_since u v w key (Full found) same setup none tells = none_then u v w none tells
-insertion_since u v w key (Again hops) same setup none tells = none_then u v w none tells

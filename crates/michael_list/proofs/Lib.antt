@@ -1,12 +1,10 @@
-mod Standing
+pub mod Standing
 mod Reached
 mod Loaded
-mod Placed
 mod Filling
-mod Going
+mod Homes
 mod Looking
 mod Steps
-mod Answering
+pub mod Ends
 mod Inserted
 mod Marking
-mod Whole

@@ -1,19 +1,15 @@
 -- What the loads of a record's key and of its link show of it.
-use Rattle.std.proofs.Common.{◌≡◌, ℕ, zero, suc, ◌+◌, ◌%◌, ◌<◌, ◌≤◌, List, [], ◌∷◌, length, length-append, Bool, true, Some, sym, refl, ap, ◌∙◌, subst, arith, get_or-set_same}
+use Rattle.std.proofs.Common.{◌≡◌, ℕ, ◌+◌, ◌%◌, ◌<◌, Bool, true, Some, sym, refl, ap, ◌∙◌, subst, arith}
 use Rattle.std.proofs.lemmas.Bool.{eq-eqb}
-use Rattle.atomic_table.proofs.Lists.{set_here}
 use Rattle.set_model.specs.Keys.{contains}
 use Rattle.set_model.specs.Histories.{keys_of}
-use Rattle.record_memory.specs.declared.books.Note.{Note}
 use Rattle.record_memory.specs.declared.books.View.{View}
 use Rattle.record_memory.specs.declared.books.Setup.{Setup}
 use Rattle.row_words.specs.Refs.{RefParts, LinkParts}
 use Rattle.row_words.specs.Packing.{link_in, key_in, packed_link, IsLink}
 use Rattle.row_words.proofs.Packed.{link_in-packed_link}
 use Rattle.record_rule.specs.Facts.{At as Stands, CoverFacts, mark_bit, HasMark, link_at, key_at}
-use Rattle.record_rule.specs.World.{StartsWith}
-use Rattle.record_rule.specs.Links.{from_place, note_in, note_word, noting, LoadedKey, LoadedLink}
-use Rattle.record_rule.proofs.Rebuilt.{starts_itself}
+use Rattle.record_rule.specs.Links.{from_place, note_in, LoadedKey, LoadedLink}
 use Rattle.list_facts.specs.Michael.{michael}
 use Rattle.list_facts.specs.Steps.{list_settled, marked_with}
 use Rattle.list_facts.proofs.Nodes.{noted_key}
@@ -23,22 +19,13 @@ use Rattle.record_table.specs.declared.nodes.Node.TheVariants.{At}
 use Rattle.record_table.specs.Handles.{view}
 use Rattle.record_table.specs.Nodes.{HasStarted}
 use Rattle.reclaim_api.specs.Holds.{KeepsHeld}
+use Rattle.reclaim_api.proofs.Noting.{load_notes}
+use Rattle.set_calls.specs.Knowing.{of_michael, HasSeenKey}
+use Rattle.set_calls.proofs.Seen.{seen_by_load}
 use Rattle.michael_list.specs.Walks.{unmarked}
 use Rattle.manager.specs.Callers.{AnswersNone}
-use Rattle.michael_list.specs.Knowing.{rank, StandsAt, HasSeenKey}
+use Rattle.michael_list.specs.Knowing.{rank, StandsAt}
 use Rattle.michael_list.proofs.Standing.{key_known}
-
--- there is a note at a place of which a word is known
-is_noted : (l : List Note) (p n : ℕ) → Stands (note_in l p).words 1 (Some n) → p < length l
-is_noted [] p n at = let no : ⊥ = cc in absurd no
-is_noted (x ∷ l) zero n at = omega arith
-is_noted (x ∷ l) (suc p) n at = let h = is_noted l p n at in omega arith
-
--- a settled link is noted where it is loaded
-pub noting_here : (notes : List Note) (p m n : ℕ) (r : RefParts) (b : Bool) → b ≡ true → Stands (note_in notes p).words 1 (Some m) → length (note_in notes p).words ≡ 5 → Stands (note_in (noting b notes (from_place p r) 3 n) p).words 0 (Some n)
-noting_here notes p m n r b settled known long =
-    let same = ap (λ z. note_in (noting z notes (from_place p r) 3 n) p) settled ∙ get_or-set_same notes p (note_word (note_in notes p) 3 n) _ (is_noted notes p m known) in
-    subst (λ (x : Note). Stands x.words 0 (Some n)) (sym same) (set_here (note_in notes p).words 0 (Some n) (omega arith))
 
 -- the key that was loaded of a record is that by which it stands
 pub rank_loaded : {S R : Type 0} (p q : Pass S R) (at : Held) (n : ℕ) → LoadedKey (view p) at.place at.target n (view q) → rank p (At at) ≡ key_in n + 1
@@ -75,24 +62,13 @@ module _ {S R : Type 0} (c : CoverFacts) (p q : Pass S R) (root : ℕ) (at : Hel
       let settled : list_settled 3 told.saw.body ≡ true = eq-eqb (mark_bit (link_at told.saw.body 3)) 1 (ap mark_bit is_link ∙ mark) in (
         told.link.own,
         subst (λ k. Stands (note_in (view q).own.notes at.place).words 0 (Some k)) word
-            (subst (λ (v : View). Stands (note_in v.own.notes at.place).words 0 (Some n)) (sym told.view)
-            (noting_here (view p).own.notes at.place stands.keyed.0 n at.target (list_settled 3 told.saw.body) settled stands.keyed.1 stands.long)),
+            (load_notes michael c (view p) (view q) at.place at.target first n told settled 1 stands.keyed.0 stands.keyed.1),
       )
 
   -- where it has none, the record's key was in the set
   pub present_there : (key : ℕ) → ¬ HasMark link → (view q).setup ≡ (view p).setup → AnswersNone (view p) (view q) → KeepsHeld p q → HasStarted p → rank p (At at) ≡ key + 1 → HasSeenKey q key true
-  present_there key clear setup none keeps started rank_is = record {
-    set_is = ap (λ (k : Setup). k.set) setup ∙ told.saw.set_is;
-    updates = (view q).seen_updates;
-    seen = starts_itself (view q).seen_updates;
-    front = subst (StartsWith (view q).seen_updates) (sym none.front) told.whole.front;
-    started = (keeps.goes_on started).0;
-    since_start = let e = (keeps.goes_on started).1 in let r = told.whole.recent.updates_since in let l = seen_less in omega arith;
-    answer = ap (λ k. contains (keys_of (view q).seen_updates) k) same_key ∙ told.saw.shown.present (λ e. clear (sym (ap mark_bit is_link) ∙ e)) refl;
-  }
+  present_there key clear setup none keeps started rank_is = seen_by_load p q setup none key true michael of_michael (from_place at.place at.target) c first n told keeps started
+      (ap (λ k. contains (keys_of (view q).seen_updates) k) same_key ∙ told.saw.shown.present (λ e. clear (sym (ap mark_bit is_link) ∙ e)) refl)
     where
-      seen_less : length (view p).seen_updates ≤ length (view q).seen_updates
-      seen_less = let e = ap length told.whole.seen_updates.1 in let l = length-append (view p).seen_updates told.whole.seen_updates.0 in omega arith
-
       same_key : key ≡ key_at told.saw.body
       same_key = let k = noted_key michael (note_in (view p).own.notes at.place) told.saw.body told.saw.fits stands.keyed in omega arith

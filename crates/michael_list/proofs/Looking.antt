@@ -9,8 +9,8 @@ use Rattle.pool.specs.declared.Pool.{Ghosts as OfPool}
 use Rattle.record_pieces.specs.Events.{Event, keyed, looked}
 use Rattle.manager.specs.declared.types.Guard.{Guard}
 use Rattle.manager.specs.Guards.{Did, DidAll}
+use Rattle.set_calls.proofs.Going.{did_one, did_then}
 use Rattle.michael_list.specs.Walks.{loads}
-use Rattle.michael_list.proofs.Going.{did_one, did_then}
 
 module _ {S R L A P : Type 0} {r : OfScheme R L} {a : OfAllocator A} {p : OfPool P} (f g h : Guard S R A P L r a p) (at : Held) (found : ℕ) (link : LinkParts) (same : g.manager.now ≡ f.manager.now) (key : Did f (keyed at.target found) g) (look : Did g (looked (At at) 3 link) h) where
   pub did_loads : DidAll f (loads at found link) h

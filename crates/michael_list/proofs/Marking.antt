@@ -15,9 +15,9 @@ use Rattle.record_table.specs.declared.nodes.Held.{Held}
 use Rattle.record_table.specs.declared.nodes.Node.TheVariants.{At}
 use Rattle.record_table.specs.Handles.{view}
 use Rattle.record_table.specs.Nodes.{origin_held}
+use Rattle.reclaim_api.proofs.Noting.{exchange_notes}
+use Rattle.set_calls.specs.Answers.{Decided}
 use Rattle.michael_list.specs.Knowing.{rank, StandsAt, IsMarkNoted}
-use Rattle.michael_list.specs.Answers.{Decided}
-use Rattle.michael_list.proofs.Loaded.{noting_here}
 
 -- a removal is decided by the step that it names
 pub removal_decided : (v w : View) (o : Origin) (key : ℕ) (old new : LinkParts) → ExchangedLink michael v o 3 old new (Some (Remove key)) w → Decided (Remove key) v w
@@ -36,10 +36,8 @@ module _ {S R : Type 0} (p : Pass S R) (root : ℕ) (at : Held) (stands : Stands
   -- and its link is noted then
   pub mark_left : (q : Pass S R) (key : ℕ) (link : LinkParts) → IsLink (marked_with link) → ExchangedLink michael (view p) (origin_held at) 3 link (marked_with link) (Some (Remove key)) (view q) → IsMarkNoted q at link
   mark_left q key link is_link told =
-      let n = packed_link at.target.generation (marked_with link) in
       let left : link_at told.body 3 ≡ marked_with link = ap link_in told.word ∙ link_in-packed_link at.target.generation (marked_with link) is_link in
       let settled : list_settled 3 told.body ≡ true = ap (λ (l : LinkParts). eqb (mark_bit l) 1) left in (
         at.target.generation,
-        subst (λ (v : View). Stands (note_in v.own.notes at.place).words 0 (Some n)) (sym told.view)
-            (noting_here (view p).own.notes at.place stands.keyed.0 n at.target (list_settled 3 told.body) settled stands.keyed.1 stands.long),
+        exchange_notes michael (view p) (view q) at.place at.target link (marked_with link) (Some (Remove key)) told settled 1 stands.keyed.0 stands.keyed.1,
       )

@@ -6,7 +6,6 @@ use Rattle.row_words.specs.Refs.{RefParts, LinkParts}
 use Rattle.row_words.specs.Packing.{link_in}
 use Rattle.record_rule.specs.Facts.{At as Stands, Near, at_root, at_held, mark_bit, HasMark, link_at, key_at, word_in}
 use Rattle.record_rule.specs.Laws.{root_at}
-use Rattle.record_rule.specs.World.{StartsWith}
 use Rattle.record_rule.specs.Links.{near_of, note_in, note_of, FitsBody, IsFound, target_of}
 use Rattle.list_facts.specs.Michael.{michael}
 use Rattle.list_facts.specs.Steps.{rank_near, home_near, IsKeyed, key_noted}
@@ -20,7 +19,9 @@ use Rattle.record_table.specs.Handles.{view}
 use Rattle.record_table.specs.Nodes.{origin, HoldsThere}
 use Rattle.reclaim_api.specs.Holds.{KeepsElse, IsElsewhere, HasSeen}
 use Rattle.manager.specs.Callers.{AnswersNone}
-use Rattle.michael_list.specs.Knowing.{rank, StandsAt, StandsBefore, HasSeenKey, HasReachedNext}
+use Rattle.set_calls.specs.Knowing.{of_michael, HasSeenKey}
+use Rattle.set_calls.proofs.Seen.{seen_by_hold}
+use Rattle.michael_list.specs.Knowing.{rank, StandsAt, StandsBefore, HasReachedNext}
 use Rattle.michael_list.proofs.Standing.{key_known, Covers, stands_still}
 
 -- where a node stands by what is known of it is where its body says
@@ -65,15 +66,8 @@ module _ {S R : Type 0} (p q : Pass S R) (place root key : ℕ) (before : Node) 
 
   -- so where the target, if there is one, has a greater key, the key was absent
   pub absent_between : MatchOption (rank_of seen.target) (Unit {0}) (λ r. key + 1 < r) → HasSeenKey q key false
-  absent_between high = record {
-    set_is = ap (λ (k : Setup). k.set) (same_setup ∙ sym seen.setup) ∙ seen.saw.set_is;
-    updates = seen.updates;
-    seen = seen.noted;
-    front = subst (StartsWith seen.updates) (sym none.front) seen.whole.front;
-    started = seen.started;
-    since_start = seen.since_start;
-    answer = seen.saw.shown.between unmarked refl found_there key (ap (λ (k : Setup). key % k.roots) seen.setup ∙ home ∙ sym home_is) (let low = at.below in let e = rank_is in omega arith) high;
-  }
+  absent_between high = seen_by_hold p q same_setup none key false michael of_michael (origin before) place link seen
+      (seen.saw.shown.between unmarked refl found_there key (ap (λ (k : Setup). key % k.roots) seen.setup ∙ home ∙ sym home_is) (let low = at.below in let e = rank_is in omega arith) high)
 
   -- where there is none, it was
   pub absent_at_end : link.target ≡ None → HasSeenKey q key false
@@ -122,7 +116,6 @@ module _ {S R : Type 0} (p q : Pass S R) (place root key : ℕ) (before : Node) 
       there = there;
       keyed = (word_in body 4, has_word);
       home = ap (λ k. k % (view q).setup.roots) key_is ∙ ap (λ (k : Setup). key_at body % k.roots) (same_setup ∙ sym seen.setup) ∙ behind.0 ∙ home_is;
-      long = ap (λ (x : Note). length x.words) note_is;
     }
 
     -- the next record of the list is reached

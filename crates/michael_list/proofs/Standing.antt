@@ -4,10 +4,8 @@ use Rattle.record_memory.specs.declared.books.Setup.{Setup}
 use Rattle.record_memory.specs.declared.books.Note.{Note}
 use Rattle.row_words.specs.Packing.{key_in}
 use Rattle.record_rule.specs.Facts.{At as Stands}
-use Rattle.record_rule.specs.World.{StartsWith}
 use Rattle.record_rule.specs.Links.{note_in}
 use Rattle.record_rule.proofs.Lists.{get_at}
-use Rattle.record_rule.proofs.Rebuilt.{starts_then}
 use Rattle.record_table.specs.declared.passes.Pass.{Pass}
 use Rattle.record_table.specs.declared.nodes.Held.{Held}
 use Rattle.record_table.specs.declared.nodes.Node.{Node}
@@ -17,7 +15,9 @@ use Rattle.record_table.specs.Nodes.{origin}
 use Rattle.list_facts.specs.Steps.{key_in_note, key_noted}
 use Rattle.reclaim_api.specs.Holds.{KeepsSome, KeepsHeld, KeepsButLink, IsElsewhere}
 use Rattle.manager.specs.Callers.{AnswersNone}
-use Rattle.michael_list.specs.Knowing.{rank, StandsAt, StandsBefore, HasSeenKey, HasReachedNext}
+use Rattle.set_calls.specs.Knowing.{HasSeenKey}
+use Rattle.set_calls.proofs.Seen.{seen_still}
+use Rattle.michael_list.specs.Knowing.{rank, StandsAt, StandsBefore, HasReachedNext}
 
 -- the key of a note is that of its second word
 pub key_known : (note : Note) (n : ℕ) → Stands note.words 1 (Some n) → key_noted note ≡ key_in n
@@ -39,7 +39,6 @@ module _ {S R : Type 0} (places : ℕ → Type 0) (words : ℕ → ℕ → Type 
       there = subst (λ (k : Setup). n < k.roots) (sym setup) h.there;
       keyed = tt;
       home = h.home;
-      long = tt;
     },
     refl,
   )
@@ -48,22 +47,9 @@ module _ {S R : Type 0} (places : ℕ → Type 0) (words : ℕ → ℕ → Type 
       there = keeps.holds at covers.0 h.there;
       keyed = (h.keyed.0, keeps.notes at.place 1 h.keyed.0 covers.1 h.keyed.1);
       home = ap (λ (k : Setup). key_noted (note_in (view q).own.notes at.place) % k.roots) setup ∙ ap (λ k. k % (view p).setup.roots) same ∙ h.home;
-      long = keeps.long at.place covers.0 ∙ h.long;
     },
     ap (λ k. k + 1) same,
   )
-
-  -- what was seen of a key is so still
-  pub seen_still : AnswersNone (view p) (view q) → (key : ℕ) (b : Bool) → HasSeenKey p key b → HasSeenKey q key b
-  seen_still none key b h = record {
-    set_is = ap (λ (k : Setup). k.set) setup ∙ h.set_is;
-    updates = h.updates;
-    seen = starts_then h.updates (view p).seen_updates (view q).seen_updates h.seen keeps.noted;
-    front = subst (StartsWith h.updates) (sym none.front) h.front;
-    started = (keeps.goes_on h.started).0;
-    since_start = let e = (keeps.goes_on h.started).1 in let l = h.since_start in omega arith;
-    answer = h.answer;
-  }
 
 module _ {S R : Type 0} (p q : Pass S R) (setup : (view q).setup ≡ (view p).setup) (root : ℕ) where
   module _ (keeps : KeepsHeld p q) where
@@ -79,7 +65,7 @@ module _ {S R : Type 0} (p q : Pass S R) (setup : (view q).setup ≡ (view p).se
     before_held key node h = let s = stands_held node h.stands in record { stands = s.0; below = let e = s.1 in let b = h.below in omega arith }
 
     pub seen_held : AnswersNone (view p) (view q) → (key : ℕ) (b : Bool) → HasSeenKey p key b → HasSeenKey q key b
-    seen_held none key b h = seen_still (λ place. Unit {0}) (λ place f. Unit {0}) p q setup keeps none key b h
+    seen_held none key b h = seen_still p q setup none key b (λ place. Unit {0}) (λ place f. Unit {0}) keeps h
 
     -- what was reached is the next record still
     pub reached_still : AnswersNone (view p) (view q) → (key : ℕ) (before : Node) (at : Held) → HasReachedNext p root key before at → HasReachedNext q root key before at

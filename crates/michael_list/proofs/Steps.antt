@@ -14,7 +14,7 @@ use Rattle.michael_list.specs.Knowing.{rank, StandsBefore, IsLanding, IsNext, Is
 module _ {S R : Type 0} (q : Pass S R) (root key : ℕ) (has : root < (view q).setup.roots) where
   -- a walk starts at the root
   pub at_root : StandsBefore q root key (Root root)
-  at_root = record { stands = record { there = has; keyed = tt; home = refl; long = tt }; below = omega arith }
+  at_root = record { stands = record { there = has; keyed = tt; home = refl }; below = omega arith }
 
   -- it goes on from where a hop left it
   pub next_from : (before node : Node) (low made : ℕ) (landing : Landing) (es fs : List Event) → IsLanding q root key before low landing → IsNext root before landing (Ok node) → Walks key root made before low es → Hops key before landing fs

@@ -1,23 +1,19 @@
--- What the walker of a list knows of the node at which it is, and of what it saw of the key.
-use Rattle.std.specs.Prelude.{◌≡◌, ℕ, ◌+◌, ◌%◌, ◌<◌, ◌≤◌, List, length, Bool, true, false, Option, Some, None, Result, Ok, Err}
-use Rattle.set_model.specs.declared.calls.Update.{Update}
-use Rattle.set_model.specs.declared.names.SetName.TheVariants.{Michael}
-use Rattle.set_model.specs.Keys.{contains}
-use Rattle.set_model.specs.Histories.{keys_of}
+-- What the walker of a list knows of the node at which it is, and of what it reached from there.
+use Rattle.std.specs.Prelude.{◌≡◌, ℕ, ◌+◌, ◌%◌, ◌<◌, true, false, Option, Some, None, Result, Ok, Err}
 use Rattle.record_memory.specs.declared.books.Setup.{Setup}
 use Rattle.row_words.specs.Refs.{LinkParts}
 use Rattle.row_words.specs.Packing.{packed_link, IsLink}
 use Rattle.record_rule.specs.Facts.{At as Stands, Near}
-use Rattle.record_rule.specs.World.{StartsWith}
 use Rattle.record_rule.specs.Links.{note_in, near_of}
 use Rattle.record_table.specs.declared.passes.Pass.{Pass}
 use Rattle.record_table.specs.declared.nodes.Held.{Held}
 use Rattle.record_table.specs.declared.nodes.Node.{Node}
 use Rattle.record_table.specs.declared.nodes.Node.TheVariants.{Root, At}
 use Rattle.record_table.specs.Handles.{view}
-use Rattle.record_table.specs.Nodes.{origin, HoldsNode, HasStarted}
+use Rattle.record_table.specs.Nodes.{origin, HoldsNode}
 use Rattle.reclaim_api.specs.Holds.{IsElsewhere}
 use Rattle.list_facts.specs.Steps.{rank_near, home_near, marked_with, IsKeyed}
+use Rattle.set_calls.specs.Knowing.{HasSeenKey}
 use Rattle.michael_list.specs.declared.spots.Spot.{Spot}
 use Rattle.michael_list.specs.declared.spots.Spot.TheVariants.{Present, Absent}
 use Rattle.michael_list.specs.declared.spots.Landing.{Landing}
@@ -43,27 +39,11 @@ module _ {S R : Type 0} where
   abbrev pub rank : Pass S R → Node → ℕ
   rank p node = rank_near (near p node)
 
-  -- a note of a held record has all its words, known or not
-  abbrev pub IsLong : Pass S R → Node → Type 0
-  IsLong p (Root n) = Unit {0}
-  IsLong p (At at) = length (note_in (view p).own.notes at.place).words ≡ 5
-
   -- it stands at the root, or at a record of its list that it holds, whose key it knows
   pub record StandsAt (p : Pass S R) (root : ℕ) (node : Node) : Type 0 where
     pub there : HoldsNode p node
     pub keyed : IsKeyed (near p node)
     pub home : home_near (view p).setup (near p node) ≡ root
-    pub long : IsLong p node
-
-  -- the key is in the set, or isn't, after some updates that it has seen, no fewer than when its guard started
-  pub record HasSeenKey (p : Pass S R) (key : ℕ) (present : Bool) : Type 0 where
-    pub set_is : (view p).setup.set ≡ Michael
-    pub updates : List Update
-    pub seen : StartsWith (view p).seen_updates updates
-    pub front : StartsWith updates (view p).front
-    pub started : HasStarted p
-    pub since_start : (view p).own.guard.start_updates ≤ length updates
-    pub answer : contains (keys_of updates) key ≡ present
 
   -- the link of what it holds there is known to be this one with a mark, which no step ends
   abbrev pub IsMarkNoted : Pass S R → Held → LinkParts → Type 0

@@ -5,10 +5,10 @@ use Rattle.row_words.specs.Refs.{RefParts}
 use Rattle.record_rule.specs.HandingOut.{IsOwnOf}
 use Rattle.record_pieces.specs.Events.{Event}
 use Rattle.manager.specs.Callers.{AnswersNone}
+use Rattle.set_calls.specs.Answers.{InsertTells}
 use Rattle.michael_list.specs.declared.inserting.Tried.{Tried}
 use Rattle.michael_list.specs.declared.inserting.Tried.TheVariants.{Answered, Refused}
 use Rattle.michael_list.specs.Pieces.{Insertings, Inserts}
-use Rattle.michael_list.specs.Answers.{InsertTells}
 
 -- the record that the call has from an earlier try is its own
 abbrev pub OwnsHand : View → Option RefParts → Type 0

@@ -8,10 +8,10 @@ ghost use Rattle.record_pieces.specs.Events.{Event, refused};
 ghost use Rattle.reclaim_api.specs.Holds.{KeepsHeld};
 ghost use Rattle.manager.specs.Callers.{AnswersNone};
 ghost use Rattle.manager.specs.Guards.{IsAtWork, Did, DidAll};
+ghost use Rattle.set_calls.specs.Going.{IsSameGuard, GoesOn};
+ghost use Rattle.set_calls.specs.Answers.{Decided, InsertTells};
 ghost use Rattle.michael_list.specs.Pieces.{target_of, links, back, HasRecord, Insertings, Inserts};
-ghost use Rattle.michael_list.specs.Going.{IsSameGuard, GoesOn};
 ghost use Rattle.michael_list.specs.Knowing.{IsHome, StandsBefore, IsBeyond};
-ghost use Rattle.michael_list.specs.Answers.{Decided, InsertTells};
 ghost use Rattle.michael_list.specs.Tries.{OwnsHand, TriedTells, TriedDoes};
 
 use crate::shape::MichaelShape;
@@ -83,9 +83,10 @@ fn target_of(next: &Option<Held>) -> Option<Ref>
     }
 }
 
-// Fills the record and links it between a node and the next record, which decides the insertion. `Err`: the node's link
-// had changed.
-fn link_record<'a, R: Scheme, A: Allocator, P: Pool>(
+/// Fills the record and links it between a node and the next record, as a walk for the key found them, which decides the
+/// insertion. `root` is `key` modulo the number of roots, and `key` is below 2^40. `Err`: the node's link had changed.
+/// Nothing was decided, and the record is handed back.
+pub fn link_record<'a, R: Scheme, A: Allocator, P: Pool>(
     guard: &mut Guard<'a, MichaelShape, R, A, P>,
     root: u32,
     key: u64,

@@ -5,6 +5,8 @@
 //! SPAA 2002). Each call is one guard, and its contract names what the guard did, event by event, without naming
 //! a reclaimer. After each unlinking the predecessor's link is tried anew, and a remover whose unlinking failed leaves
 //! the record to a later walk: these two rules are this project's.
+//!
+//! `find`, `link_record`, `mark` and `take_out` are the pieces of the calls, for a caller that is inside a guard.
 #![tactic(auto)]
 
 mod inserting;
@@ -15,6 +17,9 @@ mod shape;
 mod spots;
 mod walking;
 
+pub use inserting::link_record;
 pub use list::MichaelList;
+pub use removing::mark;
 pub use shape::MichaelShape;
 pub use spots::{Landing, Spot};
+pub use walking::{find, take_out};

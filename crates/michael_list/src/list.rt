@@ -16,9 +16,9 @@ ghost use Rattle.manager.specs.Counted.{AreCountsOf};
 ghost use Rattle.manager.specs.Guards.{IsAtWork};
 ghost use Rattle.manager.specs.Manners.{manner};
 ghost use Rattle.manager.specs.Made.{passes_of, AreAddedUp};
+ghost use Rattle.set_calls.specs.Answers.{InsertTells, RemoveTells, SearchTells};
 ghost use Rattle.michael_list.specs.Pieces.{Inserts, Removes, Searches};
 ghost use Rattle.michael_list.specs.Knowing.{IsHome};
-ghost use Rattle.michael_list.specs.Answers.{InsertTells, RemoveTells, SearchTells};
 
 use crate::inserting::insert;
 use crate::removing::{remove, search};

@@ -13,14 +13,14 @@ ghost use Rattle.record_pieces.specs.Events.{Event};
 ghost use Rattle.reclaim_api.specs.Holds.{KeepsButLink};
 ghost use Rattle.manager.specs.Callers.{AnswersNone};
 ghost use Rattle.manager.specs.Guards.{IsAtWork, DidAll};
+ghost use Rattle.set_calls.specs.Going.{IsSameGuard};
+ghost use Rattle.set_calls.specs.Answers.{Decided, RemoveTells, SearchTells};
 ghost use Rattle.michael_list.specs.Pieces.{marks, Removings, Removes, Searches};
-ghost use Rattle.michael_list.specs.Going.{IsSameGuard};
 ghost use Rattle.michael_list.specs.Knowing.{IsHome, StandsAt, rank};
-ghost use Rattle.michael_list.specs.Answers.{Decided, RemoveTells, SearchTells};
 
 use crate::shape::MichaelShape;
 use crate::spots::Spot;
-use crate::walking::{find, same_held, take_out};
+use crate::walking::{find, take_out};
 use alloc_api::Allocator;
 use manager::Guard;
 use pool::Pool;
@@ -28,10 +28,12 @@ use reclaim_api::Scheme;
 use record_memory::LINK;
 use record_table::{Held, Node};
 use row_words::Link;
+use set_calls::same_held;
 use set_model::{Call, LookAnswer};
 
-// Marks the record with the key, which decides its removal. Its link may have changed.
-fn mark<'a, R: Scheme, A: Allocator, P: Pool>(
+/// Marks the record with the key, where its link is still this one, as a walk found it, which decides the removal.
+/// `false`: its link had changed, and nothing was decided.
+pub fn mark<'a, R: Scheme, A: Allocator, P: Pool>(
     guard: &mut Guard<'a, MichaelShape, R, A, P>,
     root: u32,
     key: u64,

@@ -8,9 +8,10 @@ ghost use Rattle.record_table.specs.declared.nodes.Node.TheVariants.{At};
 ghost use Rattle.reclaim_api.specs.Holds.{KeepsButLink, IsElsewhere};
 ghost use Rattle.record_pieces.specs.Events.{Event};
 ghost use Rattle.manager.specs.Guards.{IsAtWork, DidAll};
+ghost use Rattle.set_calls.specs.Going.{GoesOn};
+ghost use Rattle.set_calls.specs.Knowing.{HasSeenKey};
 ghost use Rattle.michael_list.specs.Walks.{unmarked, loads, TakesOut, Looks, Hops, Finds};
-ghost use Rattle.michael_list.specs.Going.{GoesOn};
-ghost use Rattle.michael_list.specs.Knowing.{IsHome, StandsBefore, HasSeenKey, IsMarkNoted, HasReachedNext, IsLanding, IsNext, IsSpot, rank};
+ghost use Rattle.michael_list.specs.Knowing.{IsHome, StandsBefore, IsMarkNoted, HasReachedNext, IsLanding, IsNext, IsSpot, rank};
 
 use crate::shape::MichaelShape;
 use crate::spots::{Landing, Spot};
@@ -21,6 +22,7 @@ use reclaim_api::{Holding, Scheme};
 use record_memory::LINK;
 use record_table::{Held, Node};
 use row_words::Link;
+use set_calls::{same_held, same_node};
 
 // The place for what a node leads to: 0 or 1, whichever isn't the node's.
 fn place_behind(node: &Node) -> u8
@@ -33,27 +35,9 @@ fn place_behind(node: &Node) -> u8
     }
 }
 
-// The same node and the same held record once more.
-pub(crate) fn same_node(node: &Node) -> Node
-    ensures { result ≡ node.now }
-{
-    match node {
-        Node::Root(number) => Node::Root(*number),
-        Node::At(held) => Node::At(same_held(held)),
-    }
-}
-
-pub(crate) fn same_held(held: &Held) -> Held
-    ensures { result ≡ held.now }
-{
-    Held {
-        place: held.place,
-        target: held.target,
-    }
-}
-
-// Takes a marked record out behind its predecessor, and retires it. Another caller may be first.
-pub(crate) fn take_out<'a, R: Scheme, A: Allocator, P: Pool>(
+/// Takes a marked record out behind its predecessor, and retires it. `link` is the record's link without its mark.
+/// `false`: the predecessor's link had changed, so another caller was first, or an insertion came between.
+pub fn take_out<'a, R: Scheme, A: Allocator, P: Pool>(
     guard: &mut Guard<'a, MichaelShape, R, A, P>,
     before: &Node,
     gone: &Held,
@@ -177,8 +161,9 @@ fn go_on(root: u32, before: Node, landing: Landing) -> Result<Node, Spot>
     }
 }
 
-// Walks from the root to the place of the key, until `hops` has come to `budget`. `None`: one more is needed.
-pub(crate) fn find<'a, R: Scheme, A: Allocator, P: Pool>(
+/// Walks from the root to the place of the key, until `hops` has come to `budget`. `root` is `key` modulo the number of
+/// roots, and each hop adds 1 to `hops`, which is at most `budget`. `None`: one more is needed.
+pub fn find<'a, R: Scheme, A: Allocator, P: Pool>(
     guard: &mut Guard<'a, MichaelShape, R, A, P>,
     root: u32,
     key: u64,

@@ -1,3 +1,2 @@
 mod Looks
-mod Answering
 mod Filling

@@ -1,29 +1,28 @@
 -- What a look at a root shows of its key: the try to hold what it leads to, and the load of that record's link.
-use Rattle.std.proofs.Common.{◌≡◌, ℕ, zero, suc, ◌<◌, ◌≤◌, List, [], ◌∷◌, length, length-append, Bool, true, false, cond, eqb, Option, Some, None, sym, refl, ap, ◌∙◌, subst, arith, get_or-set_same}
+use Rattle.std.proofs.Common.{◌≡◌, ℕ, ◌<◌, List, length, Bool, true, false, cond, eqb, Option, Some, None, sym, refl, ap, ◌∙◌, subst, arith}
 use Rattle.std.proofs.lemmas.Bool.{eq-eqb}
-use Rattle.atomic_table.proofs.Lists.{set_here}
 use Rattle.set_model.specs.declared.calls.Call.{Call}
 use Rattle.set_model.specs.Keys.{contains}
 use Rattle.set_model.specs.Histories.{keys_of}
 use Rattle.record_memory.specs.declared.books.Note.{Note}
-use Rattle.record_memory.specs.declared.books.View.{View}
 use Rattle.record_memory.specs.declared.books.Setup.{Setup}
 use Rattle.row_words.specs.Refs.{RefParts, LinkParts}
 use Rattle.row_words.specs.Packing.{link_in, key_in, packed_link}
 use Rattle.row_words.proofs.Packed.{link_in-packed_link}
 use Rattle.record_rule.specs.Facts.{At, CoverFacts, mark_bit, HasMark, link_at, key_at, word_in}
-use Rattle.record_rule.specs.World.{StartsWith}
-use Rattle.record_rule.specs.Links.{from_root, from_place, note_in, note_of, note_word, noting, target_of, IsFound, LoadedLink, ExchangedLink}
-use Rattle.record_rule.proofs.Rebuilt.{starts_itself}
+use Rattle.record_rule.specs.Links.{from_root, from_place, note_in, note_of, target_of, IsFound, LoadedLink, ExchangedLink}
 use Rattle.list_facts.specs.Steps.{list_settled}
 use Rattle.record_table.specs.declared.passes.Pass.{Pass}
 use Rattle.record_table.specs.declared.nodes.Held.{Held}
 use Rattle.record_table.specs.Handles.{view}
 use Rattle.record_table.specs.Nodes.{HoldsThere}
 use Rattle.reclaim_api.specs.Holds.{KeepsHeld, HasSeen}
+use Rattle.reclaim_api.proofs.Noting.{load_notes, exchange_notes}
 use Rattle.manager.specs.Callers.{AnswersNone}
 use Rattle.one_key_facts.specs.OneKey.{one_key, empty_marked}
-use Rattle.one_key_set.specs.Knowing.{HasSeenKey, HoldsKey, KnowsMark}
+use Rattle.set_calls.specs.Knowing.{of_michael, HasSeenKey}
+use Rattle.set_calls.proofs.Seen.{seen_by_hold, seen_by_load}
+use Rattle.one_key_set.specs.Knowing.{HoldsKey, KnowsMark}
 
 -- the try to hold what the root leads to
 module _ {S R : Type 0} (p q : Pass S R) (key : ℕ) (link : LinkParts) (setup : (view q).setup ≡ (view p).setup) (none : AnswersNone (view p) (view q)) (clear : mark_bit link ≡ 0) (seen : HasSeen one_key 0 (from_root key) p q link) where
@@ -32,15 +31,7 @@ module _ {S R : Type 0} (p q : Pass S R) (key : ℕ) (link : LinkParts) (setup :
 
   -- it leads nowhere, so the key is absent
   pub absent_there : link.target ≡ None → HasSeenKey q key false
-  absent_there ends = record {
-    set_is = ap (λ (k : Setup). k.set) (setup ∙ sym seen.setup) ∙ seen.saw.set_is;
-    updates = seen.updates;
-    seen = seen.noted;
-    front = subst (StartsWith seen.updates) (sym none.front) seen.whole.front;
-    started = seen.started;
-    since_start = seen.since_start;
-    answer = seen.saw.shown.absent key refl (ap (λ (l : LinkParts). l.target) link_is ∙ ends);
-  }
+  absent_there ends = seen_by_hold p q setup none key false one_key of_michael (from_root key) 0 link seen (seen.saw.shown.absent key refl (ap (λ (l : LinkParts). l.target) link_is ∙ ends))
 
   -- it leads to a record, which is held from then on, and has the key
   pub holds_there : (at : Held) → HoldsThere q at → at.place ≡ 0 → link.target ≡ Some at.target → HoldsKey q key at
@@ -49,7 +40,6 @@ module _ {S R : Type 0} (p q : Pass S R) (key : ℕ) (link : LinkParts) (setup :
     word = word_in found.0 4;
     known = subst (λ (x : Note). At x.words 1 (Some (word_in found.0 4))) (sym note_is) refl;
     key_is = seen.saw.shown.behind key found.0 refl refl found.1;
-    long = ap (λ (x : Note). length x.words) note_is;
   }
     where
       leads_to : target_of link ≡ Some at.target
@@ -60,18 +50,6 @@ module _ {S R : Type 0} (p q : Pass S R) (key : ℕ) (link : LinkParts) (setup :
 
       note_is : note_in (view q).own.notes at.place ≡ note_of one_key (Some found.0) (length seen.updates)
       note_is = ap (λ k. note_in (view q).own.notes k) place ∙ seen.note ∙ ap (λ (b : Option (List ℕ)). note_of one_key b (length seen.updates)) found.1
-
--- there is a note at a place of which a word is known
-is_noted : (l : List Note) (p n : ℕ) → At (note_in l p).words 1 (Some n) → p < length l
-is_noted [] p n at = let no : ⊥ = cc in absurd no
-is_noted (x ∷ l) zero n at = omega arith
-is_noted (x ∷ l) (suc p) n at = let h = is_noted l p n at in omega arith
-
--- a settled link is noted by the step that finds or leaves it
-pub noted_link : (notes : List Note) (p m n : ℕ) (r : RefParts) (b : Bool) → b ≡ true → At (note_in notes p).words 1 (Some m) → length (note_in notes p).words ≡ 5 → At (note_in (noting b notes (from_place p r) 3 n) p).words 0 (Some n)
-noted_link notes p m n r b settled known long =
-    let same = ap (λ z. note_in (noting z notes (from_place p r) 3 n) p) settled ∙ get_or-set_same notes p (note_word (note_in notes p) 3 n) _ (is_noted notes p m known) in
-    subst (λ (x : Note). At x.words 0 (Some n)) (sym same) (set_here (note_in notes p).words 0 (Some n) (omega arith))
 
 -- the load of the record's link
 module _ {S R : Type 0} (c : CoverFacts) (p q : Pass S R) (key : ℕ) (at : Held) (first : Bool) (n : ℕ) (holds : HoldsKey p key at) (told : LoadedLink one_key c (view p) (from_place at.place at.target) 3 first n (view q)) where
@@ -96,8 +74,7 @@ module _ {S R : Type 0} (c : CoverFacts) (p q : Pass S R) (key : ℕ) (at : Held
       let settled : list_settled 3 told.saw.body ≡ true = eq-eqb (mark_bit (link_at told.saw.body 3)) 1 (ap mark_bit is_link ∙ mark) in (
         told.link.own,
         subst (λ k. At (note_in (view q).own.notes at.place).words 0 (Some k)) word
-            (subst (λ (v : View). At (note_in v.own.notes at.place).words 0 (Some n)) (sym told.view)
-            (noted_link (view p).own.notes at.place holds.word n at.target (list_settled 3 told.saw.body) settled holds.known holds.long)),
+            (load_notes one_key c (view p) (view q) at.place at.target first n told settled 1 holds.word holds.known),
       )
 
   -- what was held and known is so still
@@ -107,24 +84,13 @@ module _ {S R : Type 0} (c : CoverFacts) (p q : Pass S R) (key : ℕ) (at : Held
     word = holds.word;
     known = keeps.notes at.place 1 holds.word tt holds.known;
     key_is = holds.key_is;
-    long = keeps.long at.place tt ∙ holds.long;
   }
 
   -- without a mark, the key was in the set
   pub present_there : ¬ HasMark (link_in n) → (view q).setup ≡ (view p).setup → AnswersNone (view p) (view q) → KeepsHeld p q → HasSeenKey q key true
-  present_there clear setup none keeps = record {
-    set_is = ap (λ (k : Setup). k.set) setup ∙ told.saw.set_is;
-    updates = (view q).seen_updates;
-    seen = starts_itself (view q).seen_updates;
-    front = subst (StartsWith (view q).seen_updates) (sym none.front) told.whole.front;
-    started = (keeps.goes_on holds.there.started).0;
-    since_start = let e = (keeps.goes_on holds.there.started).1 in let r = told.whole.recent.updates_since in let l = seen_less in omega arith;
-    answer = ap (λ k. contains (keys_of (view q).seen_updates) k) same_key ∙ told.saw.shown.present refl (λ e. clear (sym (ap mark_bit is_link) ∙ e));
-  }
+  present_there clear setup none keeps = seen_by_load p q setup none key true one_key of_michael (from_place at.place at.target) c first n told keeps holds.there.started
+      (ap (λ k. contains (keys_of (view q).seen_updates) k) same_key ∙ told.saw.shown.present refl (λ e. clear (sym (ap mark_bit is_link) ∙ e)))
     where
-      seen_less : length (view p).seen_updates ≤ length (view q).seen_updates
-      seen_less = let e = ap length told.whole.seen_updates.1 in let l = length-append (view p).seen_updates told.whole.seen_updates.0 in omega arith
-
       same_key : key ≡ key_at told.saw.body
       same_key = sym holds.key_is ∙ ap key_in (sym (told.saw.fits 1 holds.word holds.known).0)
 
@@ -136,6 +102,5 @@ mark_left p q key at old new call holds is made =
     let settled : list_settled 3 made.body ≡ true = eq-eqb (mark_bit (link_at made.body 3)) 1 (ap mark_bit link) in (
       at.target.generation,
       subst (λ k. At (note_in (view q).own.notes at.place).words 0 (Some k)) (ap (packed_link at.target.generation) is)
-          (subst (λ (v : View). At (note_in v.own.notes at.place).words 0 (Some (packed_link at.target.generation new))) (sym made.view)
-          (noted_link (view p).own.notes at.place holds.word (packed_link at.target.generation new) at.target (list_settled 3 made.body) settled holds.known holds.long)),
+          (exchange_notes one_key (view p) (view q) at.place at.target old new call made settled 1 holds.word holds.known),
     )

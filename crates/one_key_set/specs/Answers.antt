@@ -1,29 +1,12 @@
--- What an answered call says of its caller's front and of its answered calls.
-use Rattle.std.specs.Prelude.{◌≡◌, ℕ, List, [], ◌∷◌, ◌++◌, length, Bool, true, false, Option, Some, None}
+-- What each answer says of its caller's front and of its answered calls.
+use Rattle.std.specs.Prelude.{ℕ, Bool, true, false, Option, Some, None}
 use Rattle.set_model.specs.declared.calls.Call.{Call}
 use Rattle.set_model.specs.declared.calls.Call.TheVariants.{Insert, Search}
-use Rattle.set_model.specs.declared.calls.Update.{Update}
 use Rattle.record_memory.specs.declared.books.View.{View}
-use Rattle.record_rule.specs.Laws.{with_update}
-use Rattle.record_rule.specs.Machines.{replies_for}
-use Rattle.record_rule.specs.World.{StartsWith}
-use Rattle.record_rule.specs.Links.{read_at, entry_for, own_update}
 use Rattle.manager.specs.Callers.{AnswersNone}
+use Rattle.set_calls.specs.Answers.{Decided, Read}
 use Rattle.one_key_set.specs.declared.answers.Added.{Added}
 use Rattle.one_key_set.specs.declared.answers.Added.TheVariants.{Done, Full, Again}
-
--- the call was decided: its update comes behind all that its caller knew to come before, and all up to it is known to come before what the caller does next
-pub record Decided (call : Call) (v w : View) : Type 0 where
-  pub updates : List Update
-  pub behind : StartsWith updates v.front
-  pub front : w.front ≡ with_update updates (own_update v (Some call))
-  pub answered : w.own.answered ≡ v.own.answered ++ entry_for (length updates) (Some call)
-
--- the call was read off the set as it was after these updates, which are its caller's front from then on
-pub record Read (call : Call) (reply : Bool) (v w : View) : Type 0 where
-  pub behind : StartsWith w.front v.front
-  pub replies : replies_for v.setup.set w.front call reply
-  pub answered : w.own.answered ≡ v.own.answered ++ read_at (length w.front) call reply ∷ []
 
 -- what each answer says: yes was decided, no was read, and at every other one no call was answered and the caller's front is as before
 abbrev pub Tells : Call → Option Bool → View → View → Type 0

@@ -4,12 +4,12 @@ ghost use Rattle.set_model.specs.declared.calls.Call.TheVariants.{Remove};
 ghost use Rattle.record_rule.specs.HandingOut.{IsOwnOf};
 ghost use Rattle.record_table.specs.Handles.{setup_of, view};
 ghost use Rattle.manager.specs.Guards.{IsAtWork};
-ghost use Rattle.one_key_set.specs.Going.{IsSameGuard};
+ghost use Rattle.set_calls.specs.Going.{IsSameGuard};
 ghost use Rattle.one_key_set.specs.Knowing.{HoldsKey};
 ghost use Rattle.one_key_set.specs.Answers.{added_if, some_if, Tells, InsertTells, SearchTells};
 
 use crate::answers::Added;
-use crate::looking::{Seen, look, same, take_out};
+use crate::looking::{Seen, look, take_out};
 use crate::shape::OneKeyShape;
 use alloc_api::Allocator;
 use manager::Guard;
@@ -18,6 +18,7 @@ use reclaim_api::Scheme;
 use record_memory::{KEY, LINK};
 use record_table::{Held, Node, Own};
 use row_words::{Link, pack_ref};
+use set_calls::same_held;
 use set_model::Call;
 
 // Fills a record and links it behind the empty root of its key, which decides the insertion. `false`: the root led
@@ -92,7 +93,7 @@ fn mark<'a, R: Scheme, A: Allocator, P: Pool>(
 {
     let old = Link::to(None);
     let decides = Some(Call::Remove(u64::from(key)));
-    match guard.exchange_link(Node::At(same(&at)), LINK, old, old.marked(), decides) {
+    match guard.exchange_link(Node::At(same_held(&at)), LINK, old, old.marked(), decides) {
         Ok(()) => {
             take_out(guard, key, at);
             true

@@ -1,9 +1,9 @@
 // A look at what a root leads to.
-ghost use Rattle.std.specs.Prelude.{◌≡◌, ◌<◌};
+ghost use Rattle.std.specs.Prelude.{◌<◌};
 ghost use Rattle.record_table.specs.Handles.{setup_of, view};
 ghost use Rattle.record_table.specs.Nodes.{HoldsThere};
 ghost use Rattle.manager.specs.Guards.{IsAtWork};
-ghost use Rattle.one_key_set.specs.Going.{GoesOn};
+ghost use Rattle.set_calls.specs.Going.{GoesOn};
 ghost use Rattle.one_key_set.specs.Knowing.{HoldsKey, KnowsMark, IsSeen};
 
 use crate::shape::OneKeyShape;
@@ -14,6 +14,7 @@ use reclaim_api::{Holding, Scheme};
 use record_memory::LINK;
 use record_table::{Held, Node};
 use row_words::Link;
+use set_calls::same_held;
 
 /// What a look at a root came to.
 #[derive(Debug, PartialEq, Eq, Drop)]
@@ -24,16 +25,6 @@ pub enum Seen {
     Present(Held),
     /// A word had changed, or the record had a mark and was taken out.
     Changed,
-}
-
-// The same record held once more: one value goes to one call.
-pub(crate) fn same(at: &Held) -> Held
-    ensures { result ≡ at.now }
-{
-    Held {
-        place: at.place,
-        target: at.target,
-    }
 }
 
 // Takes a marked record out behind its root, and retires it. Another caller may be first.
@@ -67,7 +58,7 @@ fn look_at<'a, R: Scheme, A: Allocator, P: Pool>(
     ensures on { GoesOn guard.old guard.new }
     ensures seen { IsSeen guard.new.caller.now.pass key result }
 {
-    let link = guard.load_link(Node::At(same(&at)), LINK);
+    let link = guard.load_link(Node::At(same_held(&at)), LINK);
     if link.is_marked() {
         take_out(guard, key, at);
         return Seen::Changed;

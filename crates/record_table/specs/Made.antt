@@ -53,4 +53,4 @@ abbrev pub AreBadRecords : ℕ → ℕ → Type 0
 AreBadRecords records roots = (records < roots) ⊎ (1048575 < records)
 
 abbrev pub AreBadCallers : ℕ → Type 0
-AreBadCallers callers = (callers ≡ 0) ⊎ (16 < callers)
+AreBadCallers callers = (callers ≡ 0) ⊎ (64 < callers)

@@ -21,7 +21,7 @@ use thiserror::Error;
 const MOST_RECORDS: u32 = 1_048_575;
 
 /// The greatest number of callers.
-const MOST_CALLERS: u32 = 16;
+const MOST_CALLERS: u32 = 64;
 
 /// Why a table isn't made.
 #[derive(Debug, PartialEq, Eq, Drop, Error)]
@@ -116,7 +116,7 @@ fn make<S: Shape, R: Cover>(
 /// `Once` the word that counts the records drawn isn't changed.
 ///
 /// `roots` is at least 1. The refusals come in this order: `Records` exactly where `records` is below
-/// `roots` or above 1,048,575, `Callers` exactly where `callers` is 0 or above 16, and `OutOfMemory`.
+/// `roots` or above 1,048,575, `Callers` exactly where `callers` is 0 or above 64, and `OutOfMemory`.
 /// After a refusal nothing exists.
 pub fn prepare<S: Shape, R: Cover>(
     alloc: Global,

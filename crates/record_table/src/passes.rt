@@ -38,8 +38,7 @@ impl<S, R> Pass<S, R> {
         ensures since { since self.new ≡ view self.old }
         ensures inside { is_inside self.new ≡ true }
     {
-        self.since = Snapshot::of(&self.seat);
-        self.inside = Snapshot::of(&true);
+        self.turn(true);
     }
 
     /// The caller ends its guard, and holds nothing from then on. It makes no step: contracts alone
@@ -50,8 +49,17 @@ impl<S, R> Pass<S, R> {
         ensures since { since self.new ≡ view self.old }
         ensures inside { is_inside self.new ≡ false }
     {
+        self.turn(false);
+    }
+
+    // What it knows is kept, and whether it is inside a guard from then on.
+    fn turn(&mut self, inside: bool)
+        ensures seat { IsSameSeat self.old self.new }
+        ensures since { since self.new ≡ view self.old }
+        ensures inside { is_inside self.new ≡ inside }
+    {
         self.since = Snapshot::of(&self.seat);
-        self.inside = Snapshot::of(&false);
+        self.inside = Snapshot::of(&inside);
     }
 }
 

@@ -48,8 +48,8 @@ fn refuses_bad_numbers(rt: HostRuntime) -> Result<(), Fail> {
         (1_048_576, 1, PrepareError::Records),
         (0, 0, PrepareError::Records),
         (1, 0, PrepareError::Callers),
-        (1, 17, PrepareError::Callers),
-        (1_048_575, 17, PrepareError::Callers),
+        (1, 65, PrepareError::Callers),
+        (1_048_575, 65, PrepareError::Callers),
     ] {
         let made = prepare::<NoSet, NoReclaimer>(
             rt.alloc(),
@@ -101,20 +101,21 @@ fn closes_with_the_words_it_was_made_with(rt: HostRuntime) -> Result<(), Fail> {
 }
 
 #[test]
-fn closes_with_sixteen_callers(rt: HostRuntime) -> Result<(), Fail> {
+fn closes_with_the_most_callers(rt: HostRuntime) -> Result<(), Fail> {
     let first = Generation::new(1).ok_or("a generation")?;
     let (table, passes) = prepare::<NoSet, NoReclaimer>(
         rt.alloc(),
         2,
-        16,
+        64,
         first,
         2,
         AllocatorName::Once,
     )?;
-    assert_eq!(rt; passes.len(), 16);
-    assert_eq!(rt; passes[15].caller(), 15);
+    assert_eq!(rt; passes.len(), 64);
+    assert_eq!(rt; passes[63].caller(), 63);
     let closed = table.close(passes);
-    assert_eq!(rt; closed.callers(), 16);
-    assert_eq!(rt; closed.words().len(), 116);
+    assert_eq!(rt; closed.callers(), 64);
+    // 340 control words, and two rows of eight.
+    assert_eq!(rt; closed.words().len(), 356);
     Ok(())
 }

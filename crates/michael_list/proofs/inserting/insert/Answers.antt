@@ -1,9 +1,8 @@
 use Rattle.std.proofs.Common.{[], ◌++◌, refl, arith}
 use Rattle.record_table.specs.Handles.{view}
+use Rattle.set_calls.proofs.Going.{same_guard, same_guards, did_then}
+use Rattle.set_calls.proofs.Answering.{none_then, insertion_since}
 use Rattle.michael_list.specs.Pieces.{none}
-use Rattle.michael_list.proofs.Going.{same_guard, same_guards, did_then}
-use Rattle.michael_list.proofs.Answering.{none_then}
-use Rattle.michael_list.proofs.Inserted.{insertion_since}
 use Rattle.michael_list.proofs.inserting.insert.Goals as goal
 
 pub loop-answer-init : goal.loop-answer-init

@@ -3,7 +3,7 @@ use Rattle.record_table.specs.Handles.{view}
 use Rattle.record_pieces.specs.Events.{Event}
 use Rattle.manager.specs.Callers.{AnswersNone}
 use Rattle.manager.specs.Guards.{IsAtWork, DidAll}
-use Rattle.michael_list.specs.Going.{IsSameGuard}
+use Rattle.set_calls.specs.Going.{IsSameGuard}
 use Rattle.michael_list.specs.Pieces.{Insertings}
 use Rattle.michael_list.specs.Tries.{OwnsHand}
 use Rattle.michael_list.proofs.inserting.insert.Given as goal

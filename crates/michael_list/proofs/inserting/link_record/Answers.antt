@@ -9,8 +9,8 @@ use Rattle.record_table.specs.Handles.{setup_of, view}
 use Rattle.record_pieces.specs.Events.{Event, stored_own, published}
 use Rattle.reclaim_api.proofs.Keeping.{held_then}
 use Rattle.manager.specs.Guards.{Did}
+use Rattle.set_calls.proofs.Going.{did_one, did_then}
 use Rattle.michael_list.specs.Pieces.{target_of}
-use Rattle.michael_list.proofs.Going.{did_one, did_then}
 use Rattle.michael_list.proofs.Standing.{before_held}
 use Rattle.michael_list.proofs.Filling.{may_link}
 use Rattle.michael_list.proofs.Inserted.{beyond_held}

@@ -2,22 +2,24 @@ use Rattle.std.proofs.Common.{List, [], ◌∷◌, ◌++◌, Some, None, true, f
 use Rattle.set_model.specs.declared.calls.Call.TheVariants.{Insert}
 use Rattle.record_table.specs.Handles.{view}
 use Rattle.record_pieces.specs.Events.{Event, placed, refused}
+use Rattle.list_facts.specs.Michael.{michael}
+use Rattle.set_calls.specs.Knowing.{insertion}
+use Rattle.set_calls.proofs.Going.{did_one, did_then}
+use Rattle.set_calls.proofs.Placed.{may_answer, read_seen}
+use Rattle.set_calls.proofs.Answering.{none_then}
 use Rattle.michael_list.specs.declared.spots.Spot.{Spot}
 use Rattle.michael_list.specs.Walks.{Finds}
 use Rattle.michael_list.specs.Pieces.{back, links}
 use Rattle.michael_list.specs.Knowing.{IsSpot}
-use Rattle.michael_list.proofs.Going.{did_one, did_then}
 use Rattle.michael_list.proofs.Standing.{before_held, seen_held}
-use Rattle.michael_list.proofs.Placed.{may_answer, insertion}
-use Rattle.michael_list.proofs.Answering.{none_then, read_seen}
 use Rattle.michael_list.proofs.Inserted.{beyond_held, no_hops_left, key_was_there, none_was_left, was_linked, was_refused}
 use Rattle.michael_list.proofs.inserting.try_insert.Goals as goal
 
 pub place-requires-clause-allowed : goal.place-requires-clause-allowed
 place-requires-clause-allowed g c = let back_is = c.give_back-in-Some-Present.ensures in
     let spot = subst (λ (s : Spot). IsSpot c.find.new.guard.caller.now.pass c.args.root c.args.key s) c.in-Some-Present.field-0-is c.in-Some-Present.ensures.spot.1 in
-    may_answer c.give_back-in-Some-Present.new.guard.caller.now.pass (Insert c.args.key) true false (insertion c.args.key)
-    (seen_held c.find.new.guard.caller.now.pass c.give_back-in-Some-Present.new.guard.caller.now.pass back_is.same.pass.setup c.args.root back_is.keeps back_is.answers c.args.key true spot.5)
+    may_answer michael c.give_back-in-Some-Present.new.guard.caller.now.pass (Insert c.args.key) true false
+    (seen_held c.find.new.guard.caller.now.pass c.give_back-in-Some-Present.new.guard.caller.now.pass back_is.same.pass.setup c.args.root back_is.keeps back_is.answers c.args.key true spot.5) (λ h. h) (insertion c.args.key)
 
 pub link_record-requires-clause-before : goal.link_record-requires-clause-before
 link_record-requires-clause-before g c = let took_is = c.take_record.ensures in
@@ -43,7 +45,7 @@ returns-in-Some-Present-clause-tells g c =
     let p = c.args.guard.now.caller.now.pass in let found = c.find.new.guard.caller.now.pass in let q = c.give_back-in-Some-Present.new.guard.caller.now.pass in
     let on = c.find.ensures.on in let back_is = c.give_back-in-Some-Present.ensures in
     let seen = seen_held found q back_is.same.pass.setup c.args.root back_is.keeps back_is.answers c.args.key true spot.5 in
-    read_seen p q c.place.new.self.caller.now.pass (Insert c.args.key) true false seen (back_is.same.pass.setup ∙ on.same.pass.setup) (none_then (view p) (view found) (view q) on.answers back_is.answers) c.place.ensures.step
+    read_seen michael p q c.place.new.self.caller.now.pass (Insert c.args.key) true false seen (back_is.same.pass.setup ∙ on.same.pass.setup) (none_then (view p) (view found) (view q) on.answers back_is.answers) c.place.ensures.step
 
 pub returns-in-Some-Present-clause-did : goal.returns-in-Some-Present-clause-did
 returns-in-Some-Present-clause-did g c =

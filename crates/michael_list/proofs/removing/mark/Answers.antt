@@ -11,7 +11,7 @@ use Rattle.record_table.specs.Handles.{view}
 use Rattle.record_table.specs.Nodes.{origin_held}
 use Rattle.record_pieces.specs.Events.{Event, exchanged}
 use Rattle.manager.specs.Guards.{Did}
-use Rattle.michael_list.proofs.Going.{did_one}
+use Rattle.set_calls.proofs.Going.{did_one}
 use Rattle.michael_list.proofs.Marking.{removal_decided, may_mark, mark_left}
 use Rattle.michael_list.proofs.removing.mark.Goals as goal
 

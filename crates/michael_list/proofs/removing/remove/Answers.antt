@@ -1,10 +1,10 @@
 use Rattle.std.proofs.Common.{◌<◌, ◌-◌, [], ◌++◌, refl, sym, subst, arith}
 use Rattle.record_memory.specs.declared.books.Setup.{Setup}
 use Rattle.record_table.specs.Handles.{view, setup_of}
+use Rattle.set_calls.proofs.Going.{did_then, same_guard, same_guards}
+use Rattle.set_calls.proofs.Answering.{none_then, removal_since}
 use Rattle.michael_list.specs.Knowing.{IsHome}
 use Rattle.michael_list.specs.Pieces.{none}
-use Rattle.michael_list.proofs.Going.{did_then, same_guard, same_guards}
-use Rattle.michael_list.proofs.Answering.{none_then, removal_since}
 use Rattle.michael_list.proofs.removing.remove.Goals as goal
 
 pub tries-init : goal.tries-init

@@ -3,8 +3,8 @@ use Rattle.record_table.specs.Handles.{view}
 use Rattle.record_pieces.specs.Events.{Event}
 use Rattle.manager.specs.Callers.{AnswersNone}
 use Rattle.manager.specs.Guards.{IsAtWork, DidAll}
+use Rattle.set_calls.specs.Going.{IsSameGuard}
 use Rattle.michael_list.specs.Pieces.{Removings}
-use Rattle.michael_list.specs.Going.{IsSameGuard}
 use Rattle.michael_list.proofs.removing.remove.Given as goal
 
 -- the tries so far failed, within the budget, and answered nothing

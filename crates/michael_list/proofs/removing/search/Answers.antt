@@ -2,12 +2,13 @@ use Rattle.std.proofs.Common.{◌≡◌, [], ◌∷◌, ◌++◌, true, false, N
 use Rattle.set_model.specs.declared.calls.Call.TheVariants.{Search}
 use Rattle.set_model.specs.declared.calls.LookAnswer.TheVariants.{Again as LookAgain}
 use Rattle.record_pieces.specs.Events.{Event, placed}
+use Rattle.list_facts.specs.Michael.{michael}
+use Rattle.set_calls.specs.Knowing.{search_, HasSeenKey}
+use Rattle.set_calls.proofs.Going.{did_one, did_then}
+use Rattle.set_calls.proofs.Placed.{may_answer, read_seen}
 use Rattle.michael_list.specs.Walks.{Finds}
-use Rattle.michael_list.specs.Knowing.{HasSeenKey}
 use Rattle.michael_list.specs.Pieces.{Searches, sees, lacks_it, again}
-use Rattle.michael_list.proofs.Going.{did_one, did_then}
-use Rattle.michael_list.proofs.Placed.{may_answer, search_}
-use Rattle.michael_list.proofs.Answering.{is_spot, finds_it, read_seen}
+use Rattle.michael_list.proofs.Ends.{is_spot, finds_it}
 use Rattle.michael_list.proofs.removing.search.Goals as goal
 
 -- what the walk saw of the key
@@ -18,12 +19,12 @@ seen_missing : (g : _) (c : goal.After-place-in-Some-Absent g) → HasSeenKey c.
 seen_missing g c = (is_spot c.find.new.guard.caller.now.pass c.args.root c.args.key c.in-Some-Absent.field-0-is c.in-Some-Absent.ensures.spot.1).2
 
 pub place-requires-clause-allowed : goal.place-requires-clause-allowed
-place-requires-clause-allowed g c = may_answer c.find.new.guard.caller.now.pass (Search c.args.key) true true (search_ c.args.key true)
-    (is_spot c.find.new.guard.caller.now.pass c.args.root c.args.key c.in-Some-Present.field-0-is c.in-Some-Present.ensures.spot.1).5
+place-requires-clause-allowed g c = may_answer michael c.find.new.guard.caller.now.pass (Search c.args.key) true true
+    (is_spot c.find.new.guard.caller.now.pass c.args.root c.args.key c.in-Some-Present.field-0-is c.in-Some-Present.ensures.spot.1).5 (λ h. h) (search_ c.args.key true)
 
 pub place-requires-in-Some-Absent-clause-allowed : goal.place-requires-in-Some-Absent-clause-allowed
-place-requires-in-Some-Absent-clause-allowed g c = may_answer c.find.new.guard.caller.now.pass (Search c.args.key) false false (search_ c.args.key false)
-    (is_spot c.find.new.guard.caller.now.pass c.args.root c.args.key c.in-Some-Absent.field-0-is c.in-Some-Absent.ensures.spot.1).2
+place-requires-in-Some-Absent-clause-allowed g c = may_answer michael c.find.new.guard.caller.now.pass (Search c.args.key) false false
+    (is_spot c.find.new.guard.caller.now.pass c.args.root c.args.key c.in-Some-Absent.field-0-is c.in-Some-Absent.ensures.spot.1).2 (λ h. h) (search_ c.args.key false)
 
 pub returns-in-None-clause-did : goal.returns-in-None-clause-did
 returns-in-None-clause-did g c = let did = c.in-None.ensures.did in let end = c.in-None.ensures.spot in
@@ -34,7 +35,7 @@ returns-in-None-clause-did g c = let did = c.in-None.ensures.did in let end = c.
     )
 
 pub returns-in-Some-Present-clause-tells : goal.returns-in-Some-Present-clause-tells
-returns-in-Some-Present-clause-tells g c = read_seen c.args.guard.now.caller.now.pass c.find.new.guard.caller.now.pass c.place.new.self.caller.now.pass (Search c.args.key) true true (seen_there g c)
+returns-in-Some-Present-clause-tells g c = read_seen michael c.args.guard.now.caller.now.pass c.find.new.guard.caller.now.pass c.place.new.self.caller.now.pass (Search c.args.key) true true (seen_there g c)
     c.find.ensures.on.same.pass.setup c.find.ensures.on.answers c.place.ensures.step
 
 pub returns-in-Some-Present-clause-did : goal.returns-in-Some-Present-clause-did
@@ -46,7 +47,7 @@ returns-in-Some-Present-clause-did g c = let f = c.args.guard.now in let h = c.f
     )
 
 pub returns-in-Some-Absent-clause-tells : goal.returns-in-Some-Absent-clause-tells
-returns-in-Some-Absent-clause-tells g c = read_seen c.args.guard.now.caller.now.pass c.find.new.guard.caller.now.pass c.place-in-Some-Absent.new.self.caller.now.pass (Search c.args.key) false false (seen_missing g c)
+returns-in-Some-Absent-clause-tells g c = read_seen michael c.args.guard.now.caller.now.pass c.find.new.guard.caller.now.pass c.place-in-Some-Absent.new.self.caller.now.pass (Search c.args.key) false false (seen_missing g c)
     c.find.ensures.on.same.pass.setup c.find.ensures.on.answers c.place-in-Some-Absent.ensures.step
 
 pub returns-in-Some-Absent-clause-did : goal.returns-in-Some-Absent-clause-did

@@ -4,14 +4,17 @@ use Rattle.set_model.specs.declared.calls.LookAnswer.TheVariants.{Done as Looked
 use Rattle.record_pieces.specs.Events.{Event, placed}
 use Rattle.record_table.specs.Handles.{view}
 use Rattle.record_table.specs.declared.nodes.Node.TheVariants.{At}
+use Rattle.list_facts.specs.Michael.{michael}
+use Rattle.set_calls.specs.Knowing.{removal, HasSeenKey}
+use Rattle.set_calls.proofs.Going.{did_one, did_then, same_guards}
+use Rattle.set_calls.proofs.Placed.{may_answer, read_seen}
+use Rattle.set_calls.proofs.Answering.{decided_between, none_then}
 use Rattle.michael_list.specs.declared.spots.Spot.TheVariants.{Present}
 use Rattle.michael_list.specs.Walks.{Finds}
 use Rattle.michael_list.specs.Pieces.{marks, Removings, Removes, more, takes_away, lacks_it, again}
-use Rattle.michael_list.specs.Knowing.{HasSeenKey, IsSpot}
-use Rattle.michael_list.proofs.Going.{did_one, did_then, same_guards}
+use Rattle.michael_list.specs.Knowing.{IsSpot}
 use Rattle.michael_list.proofs.Standing.{stands_relinked}
-use Rattle.michael_list.proofs.Placed.{may_answer, removal}
-use Rattle.michael_list.proofs.Answering.{is_spot, finds_it, read_seen, decided_between, none_then}
+use Rattle.michael_list.proofs.Ends.{is_spot, finds_it}
 use Rattle.michael_list.proofs.removing.try_remove.Goals as goal
 
 -- where the walk ended
@@ -25,8 +28,8 @@ marked_there : (g : _) (c : goal.After-at-in-Some-Present-1 g) → IsSpot c.find
 marked_there g c = is_spot c.find.new.guard.caller.now.pass c.args.root c.args.key c.in-Some-Present.field-0-is c.in-Some-Present.ensures.spot.1
 
 pub place-requires-clause-allowed : goal.place-requires-clause-allowed
-place-requires-clause-allowed g c = may_answer c.find.new.guard.caller.now.pass (Remove c.args.key) false false (removal c.args.key)
-    (is_spot c.find.new.guard.caller.now.pass c.args.root c.args.key c.in-Some-Absent.field-0-is c.in-Some-Absent.ensures.spot.1).2
+place-requires-clause-allowed g c = may_answer michael c.find.new.guard.caller.now.pass (Remove c.args.key) false false
+    (is_spot c.find.new.guard.caller.now.pass c.args.root c.args.key c.in-Some-Absent.field-0-is c.in-Some-Absent.ensures.spot.1).2 (λ h. h) (removal c.args.key)
 
 pub mark-requires-clause-at : goal.mark-requires-clause-at
 mark-requires-clause-at g c = let s = spot_there g c in (s.1, s.2)
@@ -58,7 +61,7 @@ returns-in-None-clause-did g c = let did = c.in-None.ensures.did in let end = c.
     )
 
 pub returns-in-Some-Absent-clause-tells : goal.returns-in-Some-Absent-clause-tells
-returns-in-Some-Absent-clause-tells g c = read_seen c.args.guard.now.caller.now.pass c.find.new.guard.caller.now.pass c.place.new.self.caller.now.pass (Remove c.args.key) false false (missing_there g c)
+returns-in-Some-Absent-clause-tells g c = read_seen michael c.args.guard.now.caller.now.pass c.find.new.guard.caller.now.pass c.place.new.self.caller.now.pass (Remove c.args.key) false false (missing_there g c)
     c.find.ensures.on.same.pass.setup c.find.ensures.on.answers c.place.ensures.step
 
 pub returns-in-Some-Absent-clause-did : goal.returns-in-Some-Absent-clause-did

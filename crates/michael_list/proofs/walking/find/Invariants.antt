@@ -1,8 +1,8 @@
 use Rattle.std.proofs.Common.{◌≡◌, ℕ, ◌+◌, ◌-◌, ◌≤◌, List}
 use Rattle.record_pieces.specs.Events.{Event}
 use Rattle.manager.specs.Guards.{IsAtWork, DidAll}
+use Rattle.set_calls.specs.Going.{GoesOn}
 use Rattle.michael_list.specs.Walks.{Walks}
-use Rattle.michael_list.specs.Going.{GoesOn}
 use Rattle.michael_list.specs.Knowing.{rank, StandsBefore}
 use Rattle.michael_list.proofs.walking.find.Given as goal
 

@@ -7,11 +7,11 @@ use Rattle.reclaim_api.specs.Holds.{HasSeen, IsElsewhere}
 use Rattle.reclaim_api.specs.declared.holding.Holding.TheVariants.{Null, Held as Holds, Marked, Moved}
 use Rattle.record_pieces.specs.Events.{Event, hopped}
 use Rattle.manager.specs.Guards.{Did}
+use Rattle.set_calls.proofs.Going.{did_one, did_then}
 use Rattle.michael_list.specs.Walks.{Looks, Hops, ends, meets_mark, moves, reaches}
 use Rattle.michael_list.specs.declared.spots.Spot.TheVariants.{Absent}
 use Rattle.michael_list.specs.declared.spots.Landing.TheVariants.{Found}
 use Rattle.michael_list.specs.Knowing.{StandsBefore, HasReachedNext, IsLanding, rank}
-use Rattle.michael_list.proofs.Going.{did_one, did_then}
 use Rattle.michael_list.proofs.Reached.{absent_at_end, before_still, stands_else, reaches_next}
 use Rattle.michael_list.proofs.walking.hop.Goals as goal
 

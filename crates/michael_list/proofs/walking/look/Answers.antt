@@ -1,9 +1,9 @@
 use Rattle.std.proofs.Common.{◌≡◌, ◌<◌, ◌+◌, ◌++◌, Bool, true, false, IsTrue, sym, ap, ◌∙◌, subst, arith}
 use Rattle.row_words.specs.Refs.{LinkParts}
 use Rattle.record_rule.specs.Facts.{HasMark}
+use Rattle.set_calls.proofs.Going.{did_then}
 use Rattle.michael_list.specs.Walks.{unmarked, loads, TakesOut, passes, finds, misses, clears, is_late}
 use Rattle.michael_list.specs.Knowing.{IsMarkNoted}
-use Rattle.michael_list.proofs.Going.{did_then}
 use Rattle.michael_list.proofs.Standing.{stands_relinked}
 use Rattle.michael_list.proofs.walking.look.Goals as goal
 

@@ -10,8 +10,9 @@ use Rattle.record_table.specs.Nodes.{is_first}
 use Rattle.record_table.specs.Handles.{view}
 use Rattle.record_pieces.specs.Events.{keyed, looked}
 use Rattle.manager.specs.Guards.{Did}
+use Rattle.set_calls.specs.Knowing.{HasSeenKey}
 use Rattle.michael_list.specs.Walks.{unmarked}
-use Rattle.michael_list.specs.Knowing.{rank, IsMarkNoted, HasReachedNext, HasSeenKey}
+use Rattle.michael_list.specs.Knowing.{rank, IsMarkNoted, HasReachedNext}
 use Rattle.michael_list.proofs.Looking.{did_loads}
 use Rattle.michael_list.proofs.Standing.{stands_held, reached_still}
 use Rattle.michael_list.proofs.Loaded.{rank_loaded, mark_noted, no_flag, in_range, present_there}

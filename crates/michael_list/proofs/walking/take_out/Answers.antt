@@ -7,8 +7,8 @@ use Rattle.reclaim_api.specs.Holds.{IsElsewhere, KeepsButLink}
 use Rattle.reclaim_api.proofs.Keeping.{keeps_then}
 use Rattle.record_pieces.specs.Events.{Event, unlinked, retired}
 use Rattle.manager.specs.Guards.{Did}
+use Rattle.set_calls.proofs.Going.{did_one, did_then, keeps_any}
 use Rattle.michael_list.specs.Walks.{takes_out, is_refused}
-use Rattle.michael_list.proofs.Going.{did_one, did_then, keeps_any}
 use Rattle.michael_list.proofs.walking.take_out.Goals as goal
 
 pub returns-in-Ok-clause-keeps : goal.returns-in-Ok-clause-keeps

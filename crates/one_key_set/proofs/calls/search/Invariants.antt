@@ -1,5 +1,5 @@
 use Rattle.manager.specs.Guards.{IsAtWork}
-use Rattle.one_key_set.specs.Going.{GoesOn}
+use Rattle.set_calls.specs.Going.{GoesOn}
 use Rattle.one_key_set.proofs.calls.search.Given as goal
 
 -- no try was answered yet

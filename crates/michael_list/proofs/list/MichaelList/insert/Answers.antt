@@ -2,7 +2,7 @@ use Rattle.std.proofs.Common.{◌∙◌, rules}
 use Rattle.record_pieces.specs.Manners.{Manner}
 use Rattle.record_table.specs.Handles.{setup_of, view}
 use Rattle.manager.specs.Manners.{manner}
-use Rattle.michael_list.proofs.Whole.{whole}
+use Rattle.set_calls.proofs.Going.{whole}
 use Rattle.michael_list.proofs.list.MichaelList.insert.Goals as goal
 
 pub returns-clause-did : goal.returns-clause-did

@@ -1,6 +1,8 @@
 -- Stretches of a guard's calls, one after another.
-use Rattle.std.proofs.Common.{◌≡◌, ℕ, ◌<◌, List, [], ◌∷◌, ◌++◌, sym, refl, ◌∙◌, subst}
+use Rattle.std.proofs.Common.{◌≡◌, ℕ, List, [], ◌∷◌, ◌++◌, refl, ◌∙◌, subst}
 use Rattle.record_memory.specs.declared.books.Setup.{Setup}
+use Rattle.record_memory.specs.declared.books.Book.{Book}
+use Rattle.row_words.specs.declared.links.Freed.{Freed}
 use Rattle.record_table.specs.Handles.{setup_of, view, same_start, same_then}
 use Rattle.record_table.specs.declared.passes.Pass.{Pass}
 use Rattle.reclaim_api.specs.Holds.{KeepsSome, KeepsHeld}
@@ -8,13 +10,13 @@ use Rattle.reclaim_api.proofs.Keeping.{keeps_less}
 use Rattle.reclaim_api.specs.declared.scheme.Scheme.{Ghosts as OfScheme}
 use Rattle.alloc_api.specs.declared.Allocator.{Ghosts as OfAllocator}
 use Rattle.pool.specs.declared.Pool.{Ghosts as OfPool}
-use Rattle.record_pieces.specs.Events.{Event}
+use Rattle.record_pieces.specs.Manners.{Manner}
+use Rattle.record_pieces.specs.Events.{Event, begun, ended}
 use Rattle.record_pieces.specs.Trails.{Trail}
-use Rattle.record_pieces.proofs.Joins.{joins}
+use Rattle.record_pieces.proofs.Joins.{joins, adds}
 use Rattle.manager.specs.declared.types.Guard.{Guard}
 use Rattle.manager.specs.Guards.{Did, DidAll, manner_of}
-use Rattle.michael_list.specs.Going.{IsSameGuard, GoesOn}
-use Rattle.michael_list.specs.Knowing.{IsHome}
+use Rattle.set_calls.specs.Going.{IsSameGuard, GoesOn}
 
 module _ {S R L A P : Type 0} {r : OfScheme R L} {a : OfAllocator A} {p : OfPool P} where
   pub same_guard : (g : Guard S R A P L r a p) → IsSameGuard g g
@@ -37,13 +39,6 @@ module _ {S R L A P : Type 0} {r : OfScheme R L} {a : OfAllocator A} {p : OfPool
     owns = λ own is. y.owns own (x.owns own is);
   }
 
-  -- its table is the same one
-  pub home_then : (g h : Guard S R A P L r a p) (root key : ℕ) → IsSameGuard g h → IsHome (setup_of g.manager.now.table) root key → IsHome (setup_of h.manager.now.table) root key
-  home_then g h root key same home = subst (λ (k : Setup). IsHome k root key) (sym (λ k. setup_of (same.manager k).table)) home
-
-  pub root_there : (g : Guard S R A P L r a p) (root key : ℕ) → IsHome (setup_of g.manager.now.table) root key → root < (view g.caller.now.pass).setup.roots
-  root_there g root key home = subst (λ (k : Setup). root < k.roots) (sym g.of.setup) home.0
-
   -- one event is a list of them
   pub did_one : (g h : Guard S R A P L r a p) (e : Event) → Did g e h → DidAll g (e ∷ []) h
   did_one g h e did = ((view h.caller.now.pass).own, did, refl)
@@ -56,3 +51,7 @@ module _ {S R L A P : Type 0} {r : OfScheme R L} {a : OfAllocator A} {p : OfPool
 -- where all is kept, some is
 pub keeps_any : {S R : Type 0} (places : ℕ → Type 0) (words : ℕ → ℕ → Type 0) (p q : Pass S R) → KeepsHeld p q → KeepsSome places words p q
 keeps_any places words p q k = keeps_less (λ place. Unit {0}) places (λ place f. Unit {0}) words p q (λ place h. tt) (λ place f h. tt) k
+
+-- A whole operation, from its guard's beginning to its end, of one table, though three guards name it
+pub whole : (m : Manner) (k inner last : Setup) (es : List Event) (b c d e : Book) → inner ≡ k → last ≡ k → (f : Freed) × m.enters k b f c → Trail m inner es c d → m.leaves last d e → Trail m k (begun ∷ es ++ ended ∷ []) b e
+whole m k inner last es b c d e same end enter walk leave = (c, enter, adds m k es ended c d e (subst (λ (x : Setup). Trail m x es c d) same walk) (subst (λ (x : Setup). m.leaves x d e) end leave))

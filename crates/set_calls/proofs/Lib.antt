@@ -1,0 +1,5 @@
+pub mod Going
+pub mod Seen
+pub mod Placed
+pub mod Answering
+pub mod Filling

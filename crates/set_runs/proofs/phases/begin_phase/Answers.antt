@@ -1,0 +1,14 @@
+use Rattle.std.proofs.Common.{◌≡◌, length, refl, arith}
+use Rattle.std.proofs.lemmas.List.Elements.{All-get_or}
+use Rattle.record_rule.proofs.Rebuilt.{starts_itself}
+use Rattle.set_runs.proofs.Learning.{same_player, met_nobody}
+use Rattle.set_runs.proofs.phases.begin_phase.Goals as goal
+
+pub returns-else-phase-gt0 : goal.returns-else-phase-gt0
+returns-else-phase-gt0 g c = (
+  0,
+  record {
+    same_length = refl;
+    each = λ i d there. met_nobody g.S.ConcurrentSet.has c.args.set.now g.S.ConcurrentSet.view _ (c.requires.has i d there) (c.requires.first (omega (arith, c.if-phase-gt0.false)) i d there);
+  },
+)
