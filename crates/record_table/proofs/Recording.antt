@@ -153,7 +153,16 @@ adds_free v r place name n w t = adds_by Load place n n v w _ t.took.view record
 
 -- retiring
 pub adds_retire : (v : View) (r : RefParts) (value : ℕ) (place : Word) → place ≡ Field r.index 2 → (n : ℕ) (w : View) → ToldRetire r value v n w → Adds Store place n value v w
-adds_retire v r value place name n w t = adds_by Store place n value v w _ t.view record { same = record { caller = refl; setup = refl; present = refl; others = refl }; step = field_store v r.index 2 value t.share; one = refl; kind_is = refl; word_is = sym name; found_is = over v r.index 2 place name t.share t.taken.known n t.over; left_is = refl; idle_is = refl }
+adds_retire v r value place name n w t = adds_by Store place n value v w _ t.view record {
+  same = record { caller = refl; setup = refl; present = refl; others = refl };
+  step = field_store v r.index 2 value t.share;
+  one = refl;
+  kind_is = refl;
+  word_is = sym name;
+  found_is = over v r.index 2 place name t.share t.taken.known n t.over;
+  left_is = refl;
+  idle_is = refl;
+}
 
 -- control words
 pub adds_control : (v : View) (x : Word) (place n : ℕ) (w : View) → x ≡ word_at v.setup.callers place → w ≡ loaded_control v place n → Adds Load x n n v w

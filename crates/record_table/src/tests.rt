@@ -1,4 +1,4 @@
-use crate::{Cover, PrepareError, Shape, prepare};
+use crate::{Cover, Shape, prepare};
 use row_words::Generation;
 use set_model::{AllocatorName, ReclaimerName, SetName};
 use std::test::Fail;
@@ -38,33 +38,6 @@ impl Cover for NoReclaimer {
     ghost laws = { least_cover_laws };
 
     ghost named = { refl };
-}
-
-#[test]
-fn refuses_bad_numbers(rt: HostRuntime) -> Result<(), Fail> {
-    let first = Generation::new(1).ok_or("a generation")?;
-    for (records, callers, want) in [
-        (0, 1, PrepareError::Records),
-        (1_048_576, 1, PrepareError::Records),
-        (0, 0, PrepareError::Records),
-        (1, 0, PrepareError::Callers),
-        (1, 65, PrepareError::Callers),
-        (1_048_575, 65, PrepareError::Callers),
-    ] {
-        let made = prepare::<NoSet, NoReclaimer>(
-            rt.alloc(),
-            records,
-            callers,
-            first,
-            1,
-            AllocatorName::Bump,
-        );
-        assert!(rt;
-            made.err() == Some(want),
-            "{records} records, {callers} callers"
-        );
-    }
-    Ok(())
 }
 
 #[test]

@@ -7,12 +7,14 @@ ghost use Rattle.record_memory.specs.declared.books.Setup.{Setup};
 ghost use Rattle.record_memory.specs.declared.books.View.{View};
 ghost use Rattle.record_rule.specs.Facts.{ShapeFacts, CoverFacts};
 ghost use Rattle.record_table.specs.Closing.{closed_setup, closed_books, numbers_from, IsClosedBy};
+ghost use Rattle.manager.specs.Counted.{AreCountsOf};
+ghost use Rattle.manager.specs.Made.{AreAddedUp};
 ghost use Rattle.set_api.specs.declared.answer.Answer.{Answer};
 ghost use Rattle.set_api.specs.Answers.{Tells, Meets};
 
 use crate::answer::Answer;
 use record_table::Closed;
-use set_model::Call;
+use set_model::{Call, Counts};
 
 /// A set of keys over one table of records, which callers share. It is made with its callers, each with a
 /// number from 0 on, and is closed with all of them.
@@ -55,6 +57,11 @@ pub trait ConcurrentSet {
         ensures unchanged { view from.new ≡ view from.old }
         ensures met { Meets (view from.old) (view into.old) (view into.new) };
 
+    /// How often this caller moved records, and how many of its records lie where now.
+    fn counts(&self, caller: &Self::Caller) -> Counts
+        requires has { has self.now caller.now }
+        ensures counts { AreCountsOf result (view caller.now).own };
+
     /// Ends the set. `callers` has every caller of it in order of number. The closed table has one legal
     /// history, in which each answered call stands once, in its caller's order.
     fn close(self, callers: Vec<Self::Caller>) -> Closed
@@ -62,5 +69,6 @@ pub trait ConcurrentSet {
         requires order { map (λ caller. (view caller).own.caller) callers.items ≡ numbers_from 0 (setup self).callers }
         ensures setup { closed_setup result ≡ setup self }
         ensures books { closed_books result ≡ map (λ caller. (view caller).own) callers.items }
-        ensures fits { IsClosedBy facts cover result };
+        ensures fits { IsClosedBy facts cover result }
+        ensures moves { AreAddedUp result };
 }

@@ -3,39 +3,24 @@
 #![tactic(auto)]
 
 ghost use Rattle.std.specs.Prelude.{◌≡◌};
-ghost use Rattle.record_table.specs.Handles.{setup_of, view, IsPassOf, IsSamePass};
+ghost use Rattle.record_table.specs.Handles.{setup_of, IsPassOf, IsSamePass};
 ghost use Rattle.set_model.specs.declared.names.AllocatorName.TheVariants.{Bump as BumpName};
 
-use alloc_api::{Allocator, NoRecord};
-use alloc_bump::Bump;
-use reclaim_none::NoReclaim;
-use record_table::{PrepareError, prepare};
-use row_words::{Generation, Ref};
-use set_model::AllocatorName;
+use record_table::PrepareError;
+use row_words::Generation;
 use std::alloc::Global;
 use std::env;
 use std::process::ExitCode;
-use table_tests::{ListPass, ListTable, MichaelShape, take_last};
+use table_tests::{ListPass, ListTable, draw_aside, open, take_last};
 
-// Draws a record, hands it out and sets it aside.
-fn draw_aside(table: &ListTable, pass: &mut ListPass) -> Result<Ref, NoRecord>
-    requires pass { IsPassOf table.now pass.old }
-    requires allocator { (setup_of table.now).allocator ≡ BumpName }
-    ensures pass { IsSamePass pass.old pass.new }
-{
-    let r = Bump::draw(table, pass)?;
-    let own = table.hand_out(pass, r, 0);
-    Ok(table.set_aside(pass, own, None))
-}
-
-// Does so with every record.
+// Draws every record and sets it aside.
 fn draw_all(table: &ListTable, pass: &mut ListPass)
     requires pass { IsPassOf table.now pass.old }
     requires allocator { (setup_of table.now).allocator ≡ BumpName }
     ensures pass { IsSamePass pass.old pass.new }
 {
     'records: for _ in 0..table.records() {
-        if draw_aside(table, pass).is_err() {
+        if draw_aside(table, pass, None).is_err() {
             return;
         }
     }
@@ -43,14 +28,7 @@ fn draw_all(table: &ListTable, pass: &mut ListPass)
 
 // The number of records drawn, by the words of the closed table.
 fn drawn_of(alloc: Global, records: u32, first: Generation) -> Result<u64, PrepareError> {
-    let (table, mut passes) = prepare::<MichaelShape, NoReclaim>(
-        alloc,
-        records,
-        1,
-        first,
-        1,
-        AllocatorName::Bump,
-    )?;
+    let (table, mut passes) = open(alloc, records, 1, first, 1)?;
     let Some(mut pass) = take_last(&table, &mut passes) else {
         return Ok(0);
     };

@@ -4,14 +4,13 @@ ghost use Rattle.record_table.specs.Handles.{setup_of, view, IsPassOf, IsSamePas
 ghost use Rattle.set_model.specs.declared.names.AllocatorName.TheVariants.{Bump as BumpName};
 
 use crate::closing::take_last;
-use crate::types::{ListPass, ListTable, MichaelShape};
-use alloc_api::{Allocator, NoRecord};
-use alloc_bump::Bump;
+use crate::drawing::draw_aside;
+use crate::opening::open;
+use crate::types::{ListPass, ListTable};
+use alloc_api::NoRecord;
 use limbo_bags::{pop, push};
-use reclaim_none::NoReclaim;
-use record_table::{Rows, prepare};
+use record_table::Rows;
 use row_words::{Chain, Generation, Ref};
-use set_model::AllocatorName;
 use std::test::Fail;
 
 // Puts a record into an empty chain through the rows, and takes it off again.
@@ -35,24 +34,14 @@ fn chained(table: &ListTable, pass: &mut ListPass) -> Result<Option<Ref>, NoReco
     requires allocator { (setup_of table.now).allocator ≡ BumpName }
     ensures pass { IsSamePass pass.old pass.new }
 {
-    let drawn = Bump::draw(table, pass)?;
-    let own = table.hand_out(pass, drawn, 0);
-    let r = table.set_aside(pass, own, None);
-    let _index = r.index;
+    let r = draw_aside(table, pass, None)?;
     Ok(push_and_pop(table, pass, r))
 }
 
 #[test]
 fn a_chain_goes_through_the_rows(rt: HostRuntime) -> Result<(), Fail> {
     let first = Generation::new(1).ok_or("a generation")?;
-    let (table, mut passes) = prepare::<MichaelShape, NoReclaim>(
-        rt.alloc(),
-        2,
-        1,
-        first,
-        1,
-        AllocatorName::Bump,
-    )?;
+    let (table, mut passes) = open(rt.alloc(), 2, 1, first, 1)?;
     let mut pass = take_last(&table, &mut passes).ok_or("a pass")?;
     assert_eq!(rt; chained(&table, &mut pass), Ok(Some(Ref::new(2, first))));
     assert_eq!(rt; chained(&table, &mut pass), Err(NoRecord { found: 2 }));

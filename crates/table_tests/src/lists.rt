@@ -6,14 +6,14 @@ ghost use Rattle.table_tests.specs.First.{HasKey, HasMark, HoldsFirst, HoldsFoun
 
 use crate::closing::{close_lists, take_last};
 use crate::first_look::look_first;
-use crate::types::{ListPass, ListTable, MichaelShape};
+use crate::opening::open;
+use crate::types::{ListPass, ListTable};
 use alloc_api::Allocator;
 use alloc_bump::Bump;
-use reclaim_none::NoReclaim;
 use record_memory::{KEY, LINK};
-use record_table::{Held, Node, prepare};
+use record_table::{Held, Node};
 use row_words::{Generation, Link, MARK, Ref};
-use set_model::{AllocatorName, Call};
+use set_model::Call;
 use std::test::Fail;
 
 // A record that its caller marked: its key, and the link that it had.
@@ -206,14 +206,7 @@ fn take_out(table: &ListTable, pass: &mut ListPass, target: Ref, link: Link) -> 
 #[test]
 fn adds_a_key_and_removes_it(rt: HostRuntime) -> Result<(), Fail> {
     let first = Generation::new(7).ok_or("a generation")?;
-    let (table, mut passes) = prepare::<MichaelShape, NoReclaim>(
-        rt.alloc(),
-        4,
-        1,
-        first,
-        1,
-        AllocatorName::Bump,
-    )?;
+    let (table, mut passes) = open(rt.alloc(), 4, 1, first, 1)?;
     let mut pass = take_last(&table, &mut passes).ok_or("a pass")?;
     assert_eq!(rt; remove_first(&table, &mut pass), None);
     pass.begin_guard();
@@ -244,14 +237,7 @@ fn adds_a_key_and_removes_it(rt: HostRuntime) -> Result<(), Fail> {
 #[test]
 fn another_caller_takes_a_marked_record_out(rt: HostRuntime) -> Result<(), Fail> {
     let first = Generation::new(7).ok_or("a generation")?;
-    let (table, mut passes) = prepare::<MichaelShape, NoReclaim>(
-        rt.alloc(),
-        2,
-        2,
-        first,
-        1,
-        AllocatorName::Bump,
-    )?;
+    let (table, mut passes) = open(rt.alloc(), 2, 2, first, 1)?;
     let mut helper = take_last(&table, &mut passes).ok_or("a pass")?;
     let mut pass = take_last(&table, &mut passes).ok_or("a pass")?;
     assert!(rt; add_first(&table, &mut pass, 5));

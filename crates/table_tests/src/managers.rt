@@ -14,7 +14,7 @@ use reclaim_none::NoReclaim;
 use row_words::{Generation, Ref};
 use std::test::Fail;
 
-type ListManager = Manager<MichaelShape, NoReclaim, Bump, NoPool>;
+pub(crate) type ListManager = Manager<MichaelShape, NoReclaim, Bump, NoPool>;
 
 type ListCaller = Caller<MichaelShape, NoReclaim>;
 

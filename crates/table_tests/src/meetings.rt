@@ -4,12 +4,10 @@ ghost use Rattle.record_rule.specs.World.{StartsWith};
 ghost use Rattle.record_table.specs.Handles.{view, IsPassOf};
 ghost use Rattle.record_table.specs.Closing.{AreAllPasses};
 
-use crate::types::MichaelShape;
-use reclaim_none::NoReclaim;
-use record_table::{Cover, Pass, Shape, Table, prepare};
+use crate::opening::open;
+use record_table::{Cover, Pass, Shape, Table};
 use row_words::Generation;
 use set_history::meet;
-use set_model::AllocatorName;
 use std::test::Fail;
 
 // The first caller meets into the last one.
@@ -40,19 +38,12 @@ fn meet_in_a_row<S: Shape, R: Cover>(
 }
 
 #[test]
-fn sixteen_callers_meet_and_close(rt: HostRuntime) -> Result<(), Fail> {
+fn the_most_callers_meet_and_close(rt: HostRuntime) -> Result<(), Fail> {
     let first = Generation::new(1).ok_or("a generation")?;
-    let (table, mut passes) = prepare::<MichaelShape, NoReclaim>(
-        rt.alloc(),
-        1,
-        16,
-        first,
-        1,
-        AllocatorName::Bump,
-    )?;
+    let (table, mut passes) = open(rt.alloc(), 1, 64, first, 1)?;
     meet_ends(&table, passes.as_mut_slice());
     let closed = table.close(passes);
-    assert_eq!(rt; closed.callers(), 16);
-    assert_eq!(rt; closed.words().len(), 108);
+    assert_eq!(rt; closed.callers(), 64);
+    assert_eq!(rt; closed.words().len(), 348);
     Ok(())
 }

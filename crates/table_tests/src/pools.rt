@@ -2,12 +2,12 @@
 ghost use Rattle.std.specs.Prelude.{◌≡◌};
 ghost use Rattle.record_table.specs.Handles.{IsPassOf, IsSamePass};
 
+use crate::opening::open;
 use crate::types::MichaelShape;
 use pool::{Given, NoPool, Pool, Taken};
 use reclaim_none::NoReclaim;
-use record_table::{Cover, Pass, Shape, Table, prepare};
+use record_table::{Cover, Pass, Shape, Table};
 use row_words::{Chain, Generation};
-use set_model::AllocatorName;
 use std::test::Fail;
 
 // Asks any pool for a chain.
@@ -21,14 +21,7 @@ fn ask<S: Shape, R: Cover, P: Pool>(table: &Table<S, R>, pass: &mut Pass<S, R>) 
 #[test]
 fn a_pool_without_shelves_keeps_nothing(rt: HostRuntime) -> Result<(), Fail> {
     let first = Generation::new(1).ok_or("a generation")?;
-    let (table, mut passes) = prepare::<MichaelShape, NoReclaim>(
-        rt.alloc(),
-        1,
-        1,
-        first,
-        1,
-        AllocatorName::Bump,
-    )?;
+    let (table, mut passes) = open(rt.alloc(), 1, 1, first, 1)?;
     let pass = passes.last_mut().ok_or("a pass")?;
     assert!(rt; ask::<MichaelShape, NoReclaim, NoPool>(&table, pass) == Taken::None);
     let kept = NoPool::give(&table, pass, Chain::new());

@@ -1,43 +1,19 @@
-ghost use Rattle.std.specs.Prelude.{◌≡◌, IfOk, OnOk};
-ghost use Rattle.set_model.specs.declared.names.AllocatorName.TheVariants.{Bump as BumpName};
-ghost use Rattle.record_table.specs.Handles.{setup_of, view, IsPassOf, IsSamePass};
-
 use crate::closing::take_last;
+use crate::drawing::draw_aside;
 use crate::looks::{look_at_cursor, look_at_drawn, look_at_shelf};
-use crate::types::{ListPass, ListTable, MichaelShape};
-use alloc_api::{Allocator, NoRecord};
-use alloc_bump::Bump;
+use crate::opening::open;
+use crate::types::MichaelShape;
+use alloc_api::NoRecord;
 use reclaim_none::NoReclaim;
 use record_table::prepare;
 use row_words::{Generation, Ref};
 use set_model::AllocatorName;
 use std::test::Fail;
 
-// The birth that records are handed out with.
-const BIRTH: u64 = 0;
-
-// Draws a record, hands it out and sets it aside before `next`.
-fn draw_aside(table: &ListTable, pass: &mut ListPass, next: Option<Ref>) -> Result<Ref, NoRecord>
-    requires pass { IsPassOf table.now pass.old }
-    requires allocator { (setup_of table.now).allocator ≡ BumpName }
-    ensures pass { IsSamePass pass.old pass.new }
-{
-    let r = Bump::draw(table, pass)?;
-    let own = table.hand_out(pass, r, BIRTH);
-    Ok(table.set_aside(pass, own, next))
-}
-
 #[test]
 fn sets_every_record_aside(rt: HostRuntime) -> Result<(), Fail> {
     let first = Generation::new(7).ok_or("a generation")?;
-    let (table, mut passes) = prepare::<MichaelShape, NoReclaim>(
-        rt.alloc(),
-        4,
-        1,
-        first,
-        2,
-        AllocatorName::Bump,
-    )?;
+    let (table, mut passes) = open(rt.alloc(), 4, 1, first, 2)?;
     let mut pass = take_last(&table, &mut passes).ok_or("a pass")?;
     let a = draw_aside(&table, &mut pass, None);
     let b = draw_aside(&table, &mut pass, a.ok());
@@ -51,10 +27,10 @@ fn sets_every_record_aside(rt: HostRuntime) -> Result<(), Fail> {
     // Nothing was added at the call that found no record.
     assert_eq!(rt; words[0], 4);
     // The third record's chain word ends the chain, and the fourth's leads to the third.
-    assert_eq!(rt; words[25 + 16], own + BIRTH);
+    assert_eq!(rt; words[25 + 16], own);
     assert_eq!(rt; words[25 + 17], own);
     assert_eq!(rt; words[25 + 18], own);
-    assert_eq!(rt; words[25 + 24], own + BIRTH);
+    assert_eq!(rt; words[25 + 24], own);
     assert_eq!(rt; words[25 + 25], own + (7 << 20) + 3);
     Ok(())
 }
@@ -62,14 +38,7 @@ fn sets_every_record_aside(rt: HostRuntime) -> Result<(), Fail> {
 #[test]
 fn two_callers_draw_in_turn(rt: HostRuntime) -> Result<(), Fail> {
     let first = Generation::new(1).ok_or("a generation")?;
-    let (table, mut passes) = prepare::<MichaelShape, NoReclaim>(
-        rt.alloc(),
-        4,
-        2,
-        first,
-        1,
-        AllocatorName::Bump,
-    )?;
+    let (table, mut passes) = open(rt.alloc(), 4, 2, first, 1)?;
     let mut second = take_last(&table, &mut passes).ok_or("a pass")?;
     let mut pass = take_last(&table, &mut passes).ok_or("a pass")?;
     let a = draw_aside(&table, &mut pass, None);

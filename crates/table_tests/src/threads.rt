@@ -3,12 +3,10 @@ ghost use Rattle.std.specs.Prelude.{◌≡◌, length, IfOk};
 ghost use Rattle.record_table.specs.Handles.{view, IsPassOf, IsSamePass};
 ghost use Rattle.record_table.specs.Closing.{AreAllPasses, IsWholePassOf, own_caller};
 
-use crate::types::MichaelShape;
-use reclaim_none::NoReclaim;
+use crate::opening::open;
 use record_memory::EPOCH;
-use record_table::{Cover, Pass, Shape, Table, prepare};
+use record_table::{Cover, Pass, Shape, Table};
 use row_words::Generation;
-use set_model::AllocatorName;
 use std::alloc::AllocError;
 use std::test::Fail;
 use std::thread;
@@ -61,14 +59,7 @@ fn look_all<S: Shape + Send, R: Cover + Send>(
 #[test]
 fn callers_look_in_two_threads_and_close(rt: HostRuntime) -> Result<(), Fail> {
     let generation = Generation::new(1).ok_or("a generation")?;
-    let (table, passes) = prepare::<MichaelShape, NoReclaim>(
-        rt.alloc(),
-        1,
-        2,
-        generation,
-        1,
-        AllocatorName::Bump,
-    )?;
+    let (table, passes) = open(rt.alloc(), 1, 2, generation, 1)?;
     let passes = look_all(&rt, &table, passes)?;
     let closed = table.close(passes);
     assert_eq!(rt; closed.callers(), 2);
