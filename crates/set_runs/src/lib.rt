@@ -9,5 +9,7 @@
 mod meeting;
 mod phases;
 mod players;
+mod seats;
 
 pub use players::Player;
+pub use seats::{Seats, seat_all};
