@@ -1,3 +1,4 @@
 mod Places
 mod Learning
 mod Progress
+mod Seating

@@ -25,7 +25,7 @@ fn seat_players<C: Drop>(
     requires { length callers.items ≡ length workload.now.lists }
     ensures { IfOk result (λ players. AreSeated workload.now.lists callers.items players.items) }
 {
-    let mut players = Vec::with_capacity(alloc, callers.len())?;
+    let mut players = Vec::with_capacity(alloc, workload.callers() as usize)?;
     for caller in callers {
         let number = players.len() as u32;
         let replies = Vec::with_capacity(alloc, workload.calls_of(number).len())?;

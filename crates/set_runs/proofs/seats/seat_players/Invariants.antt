@@ -9,5 +9,5 @@ invariant-loop-caller g l = record {
   can_next : (goal.iterator-loop-caller g).can_next l.caller-iterator;
   is_finite : (goal.iterator-loop-caller g).is_finite l.caller-iterator;
   callers_are : map (λ p. p.caller) l.players.items ++ into_iter_items l.caller-iterator ≡ l.fn.callers.items;
-  each : (i : ℕ) (d : Player g.C.Denot) → i < length l.players.items → IsSeated l.workload.lists i (get_or l.players.items i d);
+  each : (i : ℕ) (d : Player g.row.C.Denot) → i < length l.players.items → IsSeated l.workload.lists i (get_or l.players.items i d);
 }
