@@ -2,3 +2,4 @@ mod Places
 mod Learning
 mod Progress
 mod Seating
+mod Whole

@@ -9,7 +9,9 @@
 mod meeting;
 mod phases;
 mod players;
+mod runs;
 mod seats;
 
 pub use players::Player;
+pub use runs::{Played, play_workload};
 pub use seats::{Seats, seat_all};
