@@ -2,6 +2,7 @@
 use Rattle.std.specs.Prelude.{◌≡◌, ℕ, ◌<◌, List, length, Some, slice_get, slice_index_or}
 use Rattle.std.specs.Global.{Vec}
 use Rattle.set_model.specs.declared.calls.Call.{Call}
+use Rattle.set_model.specs.declared.calls.Counts.{Counts}
 use Rattle.set_model.specs.declared.calls.Reply.{Reply}
 use Rattle.record_memory.specs.declared.books.Book.{Book}
 use Rattle.record_memory.specs.declared.books.Guard.{Guard}
@@ -16,6 +17,7 @@ use Rattle.set_api.specs.declared.answer.Answer.{Answer}
 use Rattle.set_api.specs.Turns.{Phases}
 use Rattle.set_runs.specs.declared.players.Player.{Player}
 use Rattle.set_runs.specs.Playing.{phases_of, IsSeated}
+use Rattle.set_runs.specs.Totals.{AreTotalsOf}
 
 -- Each has its seat and made no step yet
 pub record AreAtStart {T C : Type 0} (has : T → C → Type 0) (set : T) (view : C → View) (setup : Setup) (first : Guard) (lists : List (List (List Call))) (players : List (Player C)) : Type 0 where
@@ -35,10 +37,11 @@ pub record IsCallersPlay (steps : Call → ℕ → Answer → Book → Book → 
 
 -- A table of these numbers and names was closed by the facts of the set and of the reclaimer. To the book that it has of each caller lead
 -- that caller's calls with its replies. Whatever is in `bounds` of a phase comes between all calls of the phases before and all calls of this one.
-pub record IsSetRun (s : ShapeFacts) (c : CoverFacts) (steps : Setup → Call → ℕ → Answer → Book → Book → Type 0) (budget : ℕ) (setup : Setup) (lists : List (List (List Call))) (replies : List (Vec Reply)) (closed : Closed) : Type 0 where
+pub record IsSetRun (s : ShapeFacts) (c : CoverFacts) (steps : Setup → Call → ℕ → Answer → Book → Book → Type 0) (budget : ℕ) (setup : Setup) (lists : List (List (List Call))) (replies : List (Vec Reply)) (counts : Counts) (closed : Closed) : Type 0 where
   pub setup_is : closed_setup closed ≡ setup
   pub fits : IsClosedBy s c closed
   pub moves : AreAddedUp closed
+  pub counts_are : AreTotalsOf counts (closed_books closed)
   pub all_replies : length replies ≡ length lists
   pub all_books : length (closed_books closed) ≡ length lists
   pub bounds : List ℕ

@@ -11,6 +11,7 @@ mod phases;
 mod players;
 mod runs;
 mod seats;
+mod totals;
 
 pub use players::Player;
 pub use runs::{Played, play_workload};

@@ -4,10 +4,11 @@ ghost use Rattle.set_runs.specs.Runs.{AreAtStart, IsSetRun};
 
 use crate::phases::play_phases;
 use crate::seats::{Seats, leave_all};
+use crate::totals::total_counts;
 use outside::Gate;
 use record_table::Closed;
 use set_api::ConcurrentSet;
-use set_model::Reply;
+use set_model::{Counts, Reply};
 use std::sync::Wait;
 use std::thread::Threads;
 use workload_text::Workload;
@@ -17,6 +18,8 @@ use workload_text::Workload;
 pub struct Played {
     /// The table, closed by all callers.
     pub closed: Closed,
+    /// How often all callers moved records, and how many records lie where.
+    pub counts: Counts,
     /// The replies to each caller, in order of number.
     pub replies: Vec<Vec<Reply>>,
 }
@@ -34,7 +37,7 @@ pub fn play_workload<
     requires start { AreAtStart S.has set S.view (S.setup set) S.cover.first workload.now.lists seats.players.items }
     requires callers { (seats.callers.items ≡ []) × (length seats.players.items ≤ vec_capacity seats.callers) }
     requires replies { (seats.replies.items ≡ []) × (length seats.players.items ≤ vec_capacity seats.replies) }
-    ensures { IsSetRun S.facts S.cover S.steps budget (S.setup set) workload.now.lists result.replies.items result.closed }
+    ensures { IsSetRun S.facts S.cover S.steps budget (S.setup set) workload.now.lists result.replies.items result.counts result.closed }
 {
     let Seats {
         mut players,
@@ -42,7 +45,12 @@ pub fn play_workload<
         mut replies,
     } = seats;
     play_phases(rt, gate, &set, workload, budget, &mut players);
+    let counts = total_counts(&set, &players);
     leave_all(players, &mut callers, &mut replies);
     let closed = set.close(callers);
-    Played { closed, replies }
+    Played {
+        closed,
+        counts,
+        replies,
+    }
 }

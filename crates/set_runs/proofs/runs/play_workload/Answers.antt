@@ -6,6 +6,7 @@ use Rattle.record_table.specs.Closing.{numbers_from, closed_books}
 use Rattle.workload_text.specs.Limits.{phase_lines}
 use Rattle.set_runs.specs.declared.players.Player.{Player}
 use Rattle.set_runs.specs.Playing.{phases_of}
+use Rattle.set_runs.specs.Totals.{AreTotalsOf}
 use Rattle.set_runs.specs.Runs.{AreAtStart, IsCallersPlay}
 use Rattle.set_runs.proofs.Whole.{from_map, same_element, map_twice, written_back, at_start, in_order, callers_play, whole_phases}
 use Rattle.set_runs.proofs.runs.play_workload.Goals as goal
@@ -13,6 +14,11 @@ use Rattle.set_runs.proofs.runs.play_workload.Goals as goal
 pub play_phases-requires-clause-start : goal.play_phases-requires-clause-start
 play_phases-requires-clause-start g c κs within =
     at_start g.S.ConcurrentSet.has c.args.set g.S.ConcurrentSet.view (g.S.ConcurrentSet.setup c.args.set) g.S.ConcurrentSet.cover.first c.args.workload.now.lists (g.S.ConcurrentSet.steps (g.S.ConcurrentSet.setup c.args.set)) c.args.budget c.deref_mut.result.now (subst (λ l. AreAtStart g.S.ConcurrentSet.has c.args.set g.S.ConcurrentSet.view (g.S.ConcurrentSet.setup c.args.set) g.S.ConcurrentSet.cover.first c.args.workload.now.lists l) (sym c.deref_mut.ensures.value) c.requires.start)
+
+pub total_counts-counts-requires : goal.total_counts-counts-requires
+total_counts-counts-requires g c =
+    let at = c.play_phases.ensures.at.1 in
+    subst (λ l. (k : _) (d : Player g.row.C.Denot) → k < length l → g.S.ConcurrentSet.has c.args.set (get_or l k d).caller) (sym (c.deref.ensures.value ∙ written_back c.args.seats.players.len c.play_phases.new.players (drop (length c.play_phases.new.players) c.args.seats.players.items) (c.play_phases.ensures.at.1.same_length ∙ ap length c.deref_mut.ensures.value ∙ sym c.args.seats.players.ok.0))) (λ k d there. (at.each k d (subst (λ n. k < n) at.same_length there)).has_it)
 
 pub close-closed-requires-clause-has : goal.close-closed-requires-clause-has
 close-closed-requires-clause-has g c =
@@ -42,6 +48,7 @@ returns g c =
       setup_is = c.close-closed.ensures.setup;
       fits = c.close-closed.ensures.fits;
       moves = c.close-closed.ensures.moves;
+      counts_are = subst (AreTotalsOf c.total_counts-counts.result) (ap (map book_of) (c.deref.ensures.value ∙ back) ∙ sym books) c.total_counts-counts.ensures;
       all_replies = ap length replies ∙ length-map left (λ (p : Player g.row.C.Denot). p.replies) ∙ all;
       all_books = ap length books ∙ length-map left book_of ∙ all;
       bounds = c.play_phases.ensures.at.0;
