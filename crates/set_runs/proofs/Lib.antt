@@ -1,3 +1,5 @@
 mod Places
 mod Learning
 mod Progress
+mod Seating
+mod Whole

@@ -1,5 +1,5 @@
 -- What a caller at play has before a phase, and what comes of it.
-use Rattle.std.specs.Prelude.{◌≡◌, ℕ, ◌+◌, ◌≤◌, ◌<◌, List, [], ◌++◌, length, take, sum_by, slice_index_or, vec_capacity}
+use Rattle.std.specs.Prelude.{◌≡◌, ℕ, ◌+◌, ◌≤◌, ◌<◌, List, [], ◌++◌, length, map, take, sum_by, slice_index_or, vec_capacity}
 use Rattle.set_model.specs.declared.calls.Call.{Call}
 use Rattle.set_model.specs.declared.calls.Reply.{Reply}
 use Rattle.record_memory.specs.declared.books.Book.{Book}
@@ -70,3 +70,14 @@ module _ {T C : Type 0} (has : T → C → Type 0) (set : T) (lists : List (List
     pub played : Phases steps budget (take phase (phases_of lists number)) p.replies.items bounds start (view p.caller)
     pub counted : length p.replies.items ≡ sum_by length (take phase (phases_of lists number))
     pub room : sum_by length (phases_of lists number) ≤ vec_capacity p.replies
+
+-- it is this caller's, which has this number and has made no call yet, with room for the replies to all its calls
+pub record IsSeated {C : Type 0} (lists : List (List (List Call))) (number : ℕ) (p : Player C) : Type 0 where
+  pub number_is : p.number ≡ number
+  pub none : p.replies.items ≡ []
+  pub room : sum_by length (phases_of lists number) ≤ vec_capacity p.replies
+
+-- they are these callers' in order of number
+pub record AreSeated {C : Type 0} (lists : List (List (List Call))) (callers : List C) (players : List (Player C)) : Type 0 where
+  pub callers_are : map (λ p. p.caller) players ≡ callers
+  pub each : (i : ℕ) (d : Player C) → i < length players → IsSeated lists i (slice_index_or players i d)

@@ -9,5 +9,10 @@
 mod meeting;
 mod phases;
 mod players;
+mod runs;
+mod seats;
+mod totals;
 
 pub use players::Player;
+pub use runs::{Played, play_workload};
+pub use seats::{Seats, seat_all};

@@ -1,6 +1,6 @@
 // One phase of all callers.
 ghost use Rattle.std.specs.Prelude.{◌≡◌, ℕ, ◌+◌, ◌<◌, ◌≤◌, List, [], All, length};
-ghost use Rattle.workload_text.specs.Limits.{phase_lines};
+ghost use Rattle.workload_text.specs.Limits.{IsWorkload, phase_lines};
 ghost use Rattle.set_runs.specs.Playing.{AtEach, HasMet, IsReady, HasPlayed, IsAt};
 
 use crate::meeting::meet_all;
@@ -85,7 +85,8 @@ pub fn play_phases<
     requires all { length players.old ≡ length workload.now.lists }
     requires none { All (λ player. length (S.view player.caller).front ≤ 0) players.old }
     requires start { AtEach (λ i p. IsAt S.has set.now workload.now.lists 0 S.view (S.steps (S.setup set.now)) budget [] i (S.view p.caller)) players.old players.old }
-    ensures { (bounds : List ℕ) × AtEach (λ i p. IsAt S.has set.now workload.now.lists (phase_lines workload.now.lists + 1) S.view (S.steps (S.setup set.now)) budget bounds i (S.view p.caller)) players.old players.new }
+    ensures limits { IsWorkload workload.now }
+    ensures at { (bounds : List ℕ) × AtEach (λ i p. IsAt S.has set.now workload.now.lists (phase_lines workload.now.lists + 1) S.view (S.steps (S.setup set.now)) budget bounds i (S.view p.caller)) players.old players.new }
 {
     for phase in 0..workload.phases() + 1 {
         begin_phase(set, phase, players);

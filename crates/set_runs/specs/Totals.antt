@@ -1,0 +1,20 @@
+-- What the counts of a run say of the moves and of the records of all its callers.
+use Rattle.std.specs.Prelude.{◌≡◌, ◌<◌, ◌^◌, List, All, sum_by}
+use Rattle.set_model.specs.declared.calls.Counts.{Counts}
+use Rattle.record_memory.specs.declared.books.Book.{Book}
+use Rattle.record_rule.specs.Counts.{drawn_by, reused_by, retired_by, freed_by}
+use Rattle.record_rule.specs.Standings.{is_limbo, is_free, is_spare, is_spent}
+use Rattle.reclaim_api.specs.Frames.{had}
+use Rattle.manager.specs.Counted.{shown}
+
+-- each is the sum over all callers, and stands still at its type's end
+pub record AreTotalsOf (c : Counts) (books : List Book) : Type 0 where
+  pub drawn : c.drawn ≡ shown (sum_by drawn_by books)
+  pub reused : c.reused ≡ shown (sum_by reused_by books)
+  pub retired : c.retired ≡ shown (sum_by retired_by books)
+  pub freed : c.freed ≡ shown (sum_by freed_by books)
+  -- before a count of those that a caller retired stands still
+  pub limbo : All (λ b. b.moves.retired < 2 ^ 64) books → c.limbo ≡ shown (sum_by (had is_limbo) books)
+  pub free : c.free ≡ shown (sum_by (had is_free) books)
+  pub spare : c.spare ≡ shown (sum_by (had is_spare) books)
+  pub spent : c.spent ≡ shown (sum_by (had is_spent) books)

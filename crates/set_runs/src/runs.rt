@@ -1,0 +1,56 @@
+// A whole run.
+ghost use Rattle.std.specs.Prelude.{◌≡◌, ◌≤◌, [], length, vec_capacity};
+ghost use Rattle.set_runs.specs.Runs.{AreAtStart, IsSetRun};
+
+use crate::phases::play_phases;
+use crate::seats::{Seats, leave_all};
+use crate::totals::total_counts;
+use outside::Gate;
+use record_table::Closed;
+use set_api::ConcurrentSet;
+use set_model::{Counts, Reply};
+use std::sync::Wait;
+use std::thread::Threads;
+use workload_text::Workload;
+
+/// What a run leaves.
+#[derive(Drop)]
+pub struct Played {
+    /// The table, closed by all callers.
+    pub closed: Closed,
+    /// How often all callers moved records, and how many records lie where.
+    pub counts: Counts,
+    /// The replies to each caller, in order of number.
+    pub replies: Vec<Vec<Reply>>,
+}
+
+/// Plays the workload on the set: phase by phase, and in each phase all callers at the same time. Each
+/// caller makes its calls one after another, each within a budget of so many hops and again where it may be
+/// made again. The gate is told of each call before and after it. Between two phases all callers meet.
+/// Then the set is closed. The run takes no memory.
+pub fn play_workload<
+    R: Threads + Wait + Sync,
+    G: Gate + Sync,
+    C: Drop + Send,
+    S: ConcurrentSet<Caller = C> + Sync,
+>(rt: &R, gate: &G, set: S, workload: &Workload, budget: u32, seats: Seats<C>) -> Played
+    requires start { AreAtStart S.has set S.view (S.setup set) S.cover.first workload.now.lists seats.players.items }
+    requires callers { (seats.callers.items ≡ []) × (length seats.players.items ≤ vec_capacity seats.callers) }
+    requires replies { (seats.replies.items ≡ []) × (length seats.players.items ≤ vec_capacity seats.replies) }
+    ensures { IsSetRun S.facts S.cover S.steps budget (S.setup set) workload.now.lists result.replies.items result.counts result.closed }
+{
+    let Seats {
+        mut players,
+        mut callers,
+        mut replies,
+    } = seats;
+    play_phases(rt, gate, &set, workload, budget, &mut players);
+    let counts = total_counts(&set, &players);
+    leave_all(players, &mut callers, &mut replies);
+    let closed = set.close(callers);
+    Played {
+        closed,
+        counts,
+        replies,
+    }
+}
