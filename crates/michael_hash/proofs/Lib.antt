@@ -1,2 +1,2 @@
 mod Told
-mod Seats
+pub mod Seats

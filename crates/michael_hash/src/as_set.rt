@@ -1,4 +1,13 @@
 // The table as a set that callers share.
+ghost use Rattle.std.specs.Prelude.{◌≡◌, All, map};
+ghost use Rattle.list_facts.specs.Michael.{michael};
+ghost use Rattle.record_table.specs.Handles as handles;
+ghost use Rattle.record_table.specs.Closing.{closed_setup, closed_books, numbers_from, IsClosedBy};
+ghost use Rattle.manager.specs.Made.{AreAddedUp};
+ghost use Rattle.manager.specs.Manners.{manner};
+ghost use Rattle.michael_hash.specs.Callers.{IsWholeCallerOf};
+ghost use Rattle.michael_hash.specs.Pieces.{MakesPiece};
+
 use crate::hash::MichaelHash;
 use alloc_api::Allocator;
 use manager::Caller;
@@ -10,12 +19,6 @@ use set_api::{Answer, ConcurrentSet};
 use set_model::{Call, Counts};
 
 impl<R: Scheme, A: Allocator, P: Pool> ConcurrentSet for MichaelHash<R, A, P> {
-    ghost use Rattle.list_facts.specs.Michael.{michael};
-    ghost use Rattle.record_table.specs.Handles as handles;
-    ghost use Rattle.manager.specs.Manners.{manner};
-    ghost use Rattle.michael_hash.specs.Callers.{IsWholeCallerOf};
-    ghost use Rattle.michael_hash.specs.Pieces.{MakesPiece};
-
     type Caller = Caller<MichaelShape, R>;
 
     ghost facts = { michael };
@@ -46,7 +49,14 @@ impl<R: Scheme, A: Allocator, P: Pool> ConcurrentSet for MichaelHash<R, A, P> {
         self.lists.counts(caller)
     }
 
-    fn close(self, callers: Vec<Caller<MichaelShape, R>>) -> Closed {
+    fn close(self, callers: Vec<Caller<MichaelShape, R>>) -> Closed
+        requires has { All (IsWholeCallerOf R.is_local self.lists.manager.table) callers.items }
+        requires order { map (λ caller. (handles.view caller.pass).own.caller) callers.items ≡ numbers_from 0 (handles.setup_of self.lists.manager.table).callers }
+        ensures setup { closed_setup result ≡ handles.setup_of self.lists.manager.table }
+        ensures books { closed_books result ≡ map (λ caller. (handles.view caller.pass).own) callers.items }
+        ensures fits { IsClosedBy michael R.facts result }
+        ensures moves { AreAddedUp result }
+    {
         let MichaelHash { lists } = self;
         lists.close(callers)
     }
