@@ -1,11 +1,9 @@
--- The only caller of a table, from the list of all and back.
-use Rattle.std.proofs.Common.{◌≡◌, ℕ, List, [], ◌∷◌, ◌++◌, length, map, All, Option, Some, refl, sym, ap, subst, ◌∙◌, arith}
-use Rattle.std.specs.Option.{option_to_list}
-use Rattle.std.proofs.lemmas.List.Elements.{All-nil, All-cons, All-head, All-same}
+-- The only caller of a table, from the list of all.
+use Rattle.std.proofs.Common.{◌≡◌, List, [], ◌∷◌, ◌++◌, length, All, subst, arith}
+use Rattle.std.proofs.lemmas.List.Elements.{All-head}
 use Rattle.record_memory.specs.declared.books.View.{View}
 use Rattle.record_table.specs.declared.table.Table.{Table}
-use Rattle.record_table.specs.Handles.{setup_of, view}
-use Rattle.record_table.specs.Closing.{numbers_from, AreAllPasses}
+use Rattle.record_table.specs.Closing.{AreAllPasses}
 use Rattle.manager.specs.declared.types.Caller.{Caller}
 use Rattle.manager.specs.Callers.{IsResting}
 use Rattle.manager.specs.Made.{passes_of}
@@ -17,13 +15,7 @@ module _ {S R L : Type 0} (is_local : L → View → Type 0) (t : Table S R) whe
   -- all callers are one
   pub alone : (cs ds : List (Caller S R L)) (c : Caller S R L) → cs ≡ ds ++ c ∷ [] → length ds ≡ 0 → AreAllPasses t (passes_of cs) → All (IsResting is_local) cs → IsOnlyCallerOf is_local t c
   alone cs [] c e none all resting =
-    let a = subst (λ (l : List (Caller S R L)). AreAllPasses t (passes_of l)) e all in
-    let r = subst (λ (l : List (Caller S R L)). All (IsResting is_local) l) e resting in
-    record { whole = All-head (IsWholeCallerOf is_local t) c [] (whole_callers is_local t (c ∷ []) a r); order = in_order is_local t (c ∷ []) a }
-  alone cs (d ∷ ds) c e none all resting = omega arith
-
-  pub all_of_one : (cs : List (Caller S R L)) (c : Caller S R L) → cs ≡ c ∷ [] → IsOnlyCallerOf is_local t c → All (IsWholeCallerOf is_local t) cs
-  all_of_one cs c e h = All-same (IsWholeCallerOf is_local t) cs (c ∷ []) e (All-cons (IsWholeCallerOf is_local t) c [] h.whole (All-nil (IsWholeCallerOf is_local t)))
-
-  pub order_of_one : (cs : List (Caller S R L)) (c : Caller S R L) → cs ≡ c ∷ [] → IsOnlyCallerOf is_local t c → map (λ d. (view d.pass).own.caller) cs ≡ numbers_from 0 (setup_of t).callers
-  order_of_one cs c e h = ap (λ (l : List (Caller S R L)). map (λ d. (view d.pass).own.caller) l) e ∙ h.order
+      let a = subst (λ (l : List (Caller S R L)). AreAllPasses t (passes_of l)) e all in
+      let r = subst (λ (l : List (Caller S R L)). All (IsResting is_local) l) e resting in
+      record { whole = All-head (IsWholeCallerOf is_local t) c [] (whole_callers is_local t (c ∷ []) a r); order = in_order is_local t (c ∷ []) a }
+  alone cs (d ∷ ds) c e none all resting = absurd (omega (arith, none))

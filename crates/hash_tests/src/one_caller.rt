@@ -1,8 +1,6 @@
 // Calls of one caller, at one bucket and at many.
-ghost use Rattle.std.specs.Prelude.{◌≡◌, ◌≤◌, ◌<◌, All, IfSome};
-ghost use Rattle.list_facts.specs.Michael.{michael};
-ghost use Rattle.cover_facts.specs.Keeping.{none};
-ghost use Rattle.record_table.specs.Closing.{AreAllPasses, IsClosedBy};
+ghost use Rattle.std.specs.Prelude.{◌≤◌, ◌<◌, All, IfSome};
+ghost use Rattle.record_table.specs.Closing.{AreAllPasses};
 ghost use Rattle.manager.specs.Callers.{IsResting};
 ghost use Rattle.manager.specs.Made.{passes_of};
 ghost use Rattle.set_model.specs.Machine.{key_of};
@@ -18,7 +16,7 @@ use pool::NoPool;
 use reclaim_none::NoReclaim;
 use row_words::Generation;
 use set_api::{Answer, ConcurrentSet};
-use set_model::Call;
+use set_model::{Call, Counts};
 use std::alloc::Global;
 use std::test::Fail;
 
@@ -35,7 +33,11 @@ fn only(hash: &TestHash, mut callers: Vec<TestCaller>) -> Option<TestCaller>
     ensures only { IfSome result (λ caller. IsOnlyCallerOf (λ l v. Unit {0}) hash.now.lists.manager.table caller) }
 {
     let caller = callers.pop()?;
-    if callers.is_empty() { Some(caller) } else { None }
+    if callers.is_empty() {
+        Some(caller)
+    } else {
+        None
+    }
 }
 
 // Makes the call.
@@ -57,48 +59,78 @@ fn sums(alloc: Global, hash: TestHash, caller: TestCaller) -> Result<(u64, u64),
     Ok(size_and_sum(&closed))
 }
 
-// A table with room for three keys and so many buckets is asked, and ended.
-fn asked(rt: &HostRuntime, buckets: u32) -> Result<(), Fail>
+// What a table with room for three keys and so many buckets answers to fourteen calls, what its caller counts then, and
+// the number and the sum of the keys that it has in the end.
+fn asked(alloc: Global, buckets: u32) -> Result<([Answer; 14], Counts, (u64, u64)), Fail>
     requires { (0 < buckets) × (buckets ≤ 64) }
 {
     let first = Generation::new(1).ok_or("one")?;
-    let (hash, callers) = TestHash::prepare(rt.alloc(), buckets + 3, 1, first, buckets)?;
+    let (hash, callers) = TestHash::prepare(alloc, buckets + 3, 1, first, buckets)?;
     let mut caller = only(&hash, callers).ok_or("one caller")?;
-    assert_eq!(rt; hash.buckets(), buckets);
+    let answers = [
+        play(&hash, &mut caller, Call::Search(0), 10),
+        play(&hash, &mut caller, Call::Insert(0), 10),
+        play(&hash, &mut caller, Call::Insert(0), 10),
+        play(&hash, &mut caller, Call::Search(GREATEST), 10),
+        play(&hash, &mut caller, Call::Insert(GREATEST), 10),
+        play(&hash, &mut caller, Call::Search(0), 10),
+        play(&hash, &mut caller, Call::Search(GREATEST), 10),
+        play(&hash, &mut caller, Call::Search(GREATEST), 1),
+        play(&hash, &mut caller, Call::Remove(GREATEST), 0),
+        play(&hash, &mut caller, Call::Remove(5), 10),
+        play(&hash, &mut caller, Call::Insert(5), 10),
+        play(&hash, &mut caller, Call::Remove(5), 10),
+        play(&hash, &mut caller, Call::Search(5), 10),
+        play(&hash, &mut caller, Call::Insert(5), 10),
+    ];
+    let counts = ConcurrentSet::counts(&hash, &caller);
+    Ok((answers, counts, sums(alloc, hash, caller)?))
+}
+
+// What is answered: to the search for the greatest key within one hop, and to the insertion that finds no record, so.
+fn told(within_one: Answer, at_the_end: Answer) -> [Answer; 14] {
     let yes = Answer::Done(true);
     let no = Answer::Done(false);
-    assert_eq!(rt; play(&hash, &mut caller, Call::Search(0), 10), no);
-    assert_eq!(rt; play(&hash, &mut caller, Call::Insert(0), 10), yes);
-    assert_eq!(rt; play(&hash, &mut caller, Call::Insert(0), 10), no);
-    assert_eq!(rt; play(&hash, &mut caller, Call::Search(GREATEST), 10), no);
-    assert_eq!(rt; play(&hash, &mut caller, Call::Insert(GREATEST), 10), yes);
-    assert_eq!(rt; play(&hash, &mut caller, Call::Search(0), 10), yes);
-    assert_eq!(rt; play(&hash, &mut caller, Call::Search(GREATEST), 10), yes);
-    // The greatest key is alone in its bucket, but in the only bucket it stands behind key 0.
-    let within_one = if buckets == 1 { Answer::Again { hops: 1 } } else { yes };
-    assert_eq!(rt; play(&hash, &mut caller, Call::Search(GREATEST), 1), within_one);
-    assert_eq!(rt; play(&hash, &mut caller, Call::Remove(GREATEST), 0), Answer::Again { hops: 0 });
-    assert_eq!(rt; play(&hash, &mut caller, Call::Remove(5), 10), no);
-    assert_eq!(rt; play(&hash, &mut caller, Call::Insert(5), 10), yes);
-    assert_eq!(rt; play(&hash, &mut caller, Call::Remove(5), 10), yes);
-    assert_eq!(rt; play(&hash, &mut caller, Call::Search(5), 10), no);
-    // No record is left, and the draw finds how many there are.
-    let full = Answer::Full {
-        found: u64::from(buckets) + 3,
-    };
-    assert_eq!(rt; play(&hash, &mut caller, Call::Insert(5), 10), full);
-    let counts = hash.counts(&caller);
+    [
+        no,
+        yes,
+        no,
+        no,
+        yes,
+        yes,
+        yes,
+        within_one,
+        Answer::Again { hops: 0 },
+        no,
+        yes,
+        yes,
+        no,
+        at_the_end,
+    ]
+}
+
+#[test]
+fn one_bucket_has_all_keys(rt: HostRuntime) -> Result<(), Fail> {
+    let (answers, counts, sums) = asked(rt.alloc(), 1)?;
+    // The greatest key stands behind key 0, so one hop isn't enough.
+    assert_eq!(rt;
+        answers,
+        told(Answer::Again { hops: 1 }, Answer::Full { found: 4 })
+    );
     assert_eq!(rt; (counts.drawn, counts.retired, counts.limbo), (3, 1, 1));
-    assert_eq!(rt; sums(rt.alloc(), hash, caller)?, (2, GREATEST));
+    assert_eq!(rt; sums, (2, 1_099_511_627_773));
     Ok(())
 }
 
 #[test]
-fn one_bucket_has_both_ends(rt: HostRuntime) -> Result<(), Fail> {
-    asked(&rt, 1)
-}
-
-#[test]
-fn many_buckets_have_both_ends(rt: HostRuntime) -> Result<(), Fail> {
-    asked(&rt, 64)
+fn of_64_buckets_each_key_has_its_own(rt: HostRuntime) -> Result<(), Fail> {
+    let (answers, counts, sums) = asked(rt.alloc(), 64)?;
+    // The greatest key is alone in bucket 61.
+    assert_eq!(rt;
+        answers,
+        told(Answer::Done(true), Answer::Full { found: 67 })
+    );
+    assert_eq!(rt; (counts.drawn, counts.retired, counts.limbo), (3, 1, 1));
+    assert_eq!(rt; sums, (2, 1_099_511_627_773));
+    Ok(())
 }

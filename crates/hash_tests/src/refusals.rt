@@ -29,8 +29,14 @@ fn refusal(
 #[test]
 fn a_table_has_1_to_64_callers(rt: HostRuntime) -> Result<(), Fail> {
     let first = Generation::new(1).ok_or("one")?;
-    assert_eq!(rt; refusal(rt.alloc(), 100, 0, first, 64), Some(PrepareError::Callers));
-    assert_eq!(rt; refusal(rt.alloc(), 100, 65, first, 64), Some(PrepareError::Callers));
+    assert_eq!(rt;
+        refusal(rt.alloc(), 100, 0, first, 64),
+        Some(PrepareError::Callers)
+    );
+    assert_eq!(rt;
+        refusal(rt.alloc(), 100, 65, first, 64),
+        Some(PrepareError::Callers)
+    );
     assert_eq!(rt; refusal(rt.alloc(), 100, 64, first, 64), None);
     Ok(())
 }
@@ -38,9 +44,15 @@ fn a_table_has_1_to_64_callers(rt: HostRuntime) -> Result<(), Fail> {
 #[test]
 fn each_bucket_takes_a_record(rt: HostRuntime) -> Result<(), Fail> {
     let first = Generation::new(1).ok_or("one")?;
-    assert_eq!(rt; refusal(rt.alloc(), 63, 1, first, 64), Some(PrepareError::Records));
+    assert_eq!(rt;
+        refusal(rt.alloc(), 63, 1, first, 64),
+        Some(PrepareError::Records)
+    );
     // The number of records is looked at first.
-    assert_eq!(rt; refusal(rt.alloc(), 63, 65, first, 64), Some(PrepareError::Records));
+    assert_eq!(rt;
+        refusal(rt.alloc(), 63, 65, first, 64),
+        Some(PrepareError::Records)
+    );
     assert_eq!(rt; refusal(rt.alloc(), 64, 1, first, 64), None);
     Ok(())
 }

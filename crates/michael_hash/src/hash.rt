@@ -97,12 +97,7 @@ impl<R: Scheme, A: Allocator, P: Pool> MichaelHash<R, A, P> {
     ///
     /// `Done(true)`: this call took it away. `Done(false)`: it was absent. `Again { hops }`: one more hop was needed than
     /// the budget; then the set and what the caller has seen of it are as before.
-    pub fn remove(
-        &self,
-        caller: &mut Caller<MichaelShape, R>,
-        key: u64,
-        budget: u32,
-    ) -> LookAnswer
+    pub fn remove(&self, caller: &mut Caller<MichaelShape, R>, key: u64, budget: u32) -> LookAnswer
         requires of { IsPassOf self.now.lists.manager.table caller.old.pass }
         requires caller { IsResting R.is_local caller.old }
         requires key { key ≤ 1099511627773 }
@@ -120,12 +115,7 @@ impl<R: Scheme, A: Allocator, P: Pool> MichaelHash<R, A, P> {
     ///
     /// `Done(true)`: it is. `Done(false)`: it isn't. `Again { hops }`: one more hop was needed than the budget; then what
     /// the caller has seen of the set is as before.
-    pub fn search(
-        &self,
-        caller: &mut Caller<MichaelShape, R>,
-        key: u64,
-        budget: u32,
-    ) -> LookAnswer
+    pub fn search(&self, caller: &mut Caller<MichaelShape, R>, key: u64, budget: u32) -> LookAnswer
         requires of { IsPassOf self.now.lists.manager.table caller.old.pass }
         requires caller { IsResting R.is_local caller.old }
         requires key { key ≤ 1099511627773 }
