@@ -1,6 +1,9 @@
 -- A run from its start to the closed table.
 use Rattle.std.proofs.Common.{◌≡◌, ℕ, zero, suc, ◌+◌, ◌<◌, List, [], ◌∷◌, ◌++◌, length, map, get_or, take, sum_by, Some, slice_get, refl, sym, ap, ◌∙◌, subst, arith}
 use Rattle.std.proofs.Math.Seq.{take-length, take-append_seam}
+use Rattle.std.proofs.Math.ListN.{get_or-map}
+use Rattle.std.proofs.lemmas.List.{length-map}
+use Rattle.std.proofs.lemmas.List.Elements.{All-get_or}
 use Rattle.std.proofs.lemmas.Option.{slice_get_within, get_or_from_slice_get}
 use Rattle.set_model.specs.declared.calls.Call.{Call}
 use Rattle.set_model.specs.declared.calls.Reply.{Reply}
@@ -9,12 +12,13 @@ use Rattle.record_memory.specs.declared.books.Guard.{Guard}
 use Rattle.record_memory.specs.declared.books.Setup.{Setup}
 use Rattle.record_memory.specs.declared.books.View.{View}
 use Rattle.record_table.specs.Closing.{numbers_from}
+use Rattle.record_table.specs.Made.{IsFresh}
 use Rattle.workload_text.specs.Limits.{Plan, IsWorkload, phase_lines}
 use Rattle.set_api.specs.declared.answer.Answer.{Answer}
 use Rattle.set_api.specs.Turns.{Repeats, Turn, Turns, Phases}
 use Rattle.set_runs.specs.declared.players.Player.{Player}
-use Rattle.set_runs.specs.Playing.{phases_of, AtEach, IsAt}
-use Rattle.set_runs.specs.Runs.{AreAtStart, IsCallersPlay}
+use Rattle.set_runs.specs.Playing.{phases_of, AtEach, IsAt, AreSeated}
+use Rattle.set_runs.specs.Runs.{AreAtStart, AreFreshCallers, IsCallersPlay}
 use Rattle.set_runs.proofs.Progress.{by_recursion_at}
 
 -- what stands at a place of a mapped list comes from what stands there
@@ -94,3 +98,17 @@ module _ {T C : Type 0} (has : T → C → Type 0) (set' : T) (view : C → View
 -- each caller of a lawful workload has all phases
 pub whole_phases : (plan : Plan) → IsWorkload plan → (i : ℕ) → i < length plan.lists → length (phases_of plan.lists i) ≡ phase_lines plan.lists + 1
 whole_phases plan limits i within = by_recursion_at (λ (phases : List (List Call)). length phases ≡ phase_lines plan.lists + 1) plan.lists i [] limits.same_phases within
+
+-- callers that took their seats are at the start
+pub seated_start : {T C : Type 0} (has : T → C → Type 0) (set' : T) (view : C → View) (setup : Setup) (first : Guard) (lists : List (List (List Call))) (callers : List C) (players : List (Player C))
+    → setup.callers ≡ length lists → AreFreshCallers has set' view setup first callers → AreSeated lists callers players → AreAtStart has set' view setup first lists players
+seated_start has set' view setup first lists callers players count h s =
+    let same : length players ≡ length callers = sym (length-map players (λ p. p.caller)) ∙ ap length s.callers_are in
+    let its : (i : ℕ) (d : Player _) → i < length players → get_or callers i d.caller ≡ (get_or players i d).caller = λ i d there. ap (λ l. get_or l i d.caller) (sym s.callers_are) ∙ get_or-map (λ p. p.caller) players i d in
+    record {
+      all = same ∙ h.all ∙ count;
+      callers = count;
+      seated = s.each;
+      has_each = λ i d there. subst (has set') (its i d there) (All-get_or (has set') callers i d.caller (subst (λ n. i < n) same there) h.has_each);
+      fresh = λ i d there. subst (λ c. IsFresh setup first i (view c)) (its i d there) (h.fresh i d.caller (subst (λ n. i < n) same there));
+    }

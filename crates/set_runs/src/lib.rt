@@ -14,5 +14,5 @@ mod seats;
 mod totals;
 
 pub use players::Player;
-pub use runs::{Played, play_workload};
+pub use runs::{Played, play_set, play_workload};
 pub use seats::{Seats, seat_all};

@@ -1,14 +1,15 @@
 // A whole run.
-ghost use Rattle.std.specs.Prelude.{◌≡◌, ◌≤◌, [], length, vec_capacity};
-ghost use Rattle.set_runs.specs.Runs.{AreAtStart, IsSetRun};
+ghost use Rattle.std.specs.Prelude.{◌≡◌, ◌≤◌, [], length, vec_capacity, IfOk};
+ghost use Rattle.set_runs.specs.Runs.{AreAtStart, AreFreshCallers, IsSetRun};
 
 use crate::phases::play_phases;
-use crate::seats::{Seats, leave_all};
+use crate::seats::{Seats, leave_all, seat_all};
 use crate::totals::total_counts;
 use outside::Gate;
 use record_table::Closed;
 use set_api::ConcurrentSet;
-use set_model::{Counts, Reply};
+use set_model::{Counts, OutOfMemory, Reply};
+use std::alloc::Global;
 use std::sync::Wait;
 use std::thread::Threads;
 use workload_text::Workload;
@@ -53,4 +54,28 @@ pub fn play_workload<
         counts,
         replies,
     }
+}
+
+/// Plays the workload on a set that was just made, with a caller for each caller of the workload, as
+/// `play_workload` does. All memory of the run is taken before the first call is made.
+pub fn play_set<
+    R: Threads + Wait + Sync,
+    G: Gate + Sync,
+    C: Drop + Send,
+    S: ConcurrentSet<Caller = C> + Sync,
+>(
+    alloc: Global,
+    rt: &R,
+    gate: &G,
+    set: S,
+    callers: Vec<C>,
+    workload: &Workload,
+    budget: u32,
+) -> Result<Played, OutOfMemory>
+    requires count { (S.setup set).callers ≡ length workload.now.lists }
+    requires callers { AreFreshCallers S.has set S.view (S.setup set) S.cover.first callers.items }
+    ensures { IfOk result (λ played. IsSetRun S.facts S.cover S.steps budget (S.setup set) workload.now.lists played.replies.items played.counts played.closed) }
+{
+    let seats = seat_all(alloc, workload, callers)?;
+    Ok(play_workload(rt, gate, set, workload, budget, seats))
 }
