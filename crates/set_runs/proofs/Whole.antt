@@ -15,10 +15,11 @@ use Rattle.record_table.specs.Closing.{numbers_from}
 use Rattle.record_table.specs.Made.{IsFresh}
 use Rattle.workload_text.specs.Limits.{Plan, IsWorkload, phase_lines}
 use Rattle.set_api.specs.declared.answer.Answer.{Answer}
+use Rattle.set_api.specs.Callers.{AreFreshCallers}
 use Rattle.set_api.specs.Turns.{Repeats, Turn, Turns, Phases}
 use Rattle.set_runs.specs.declared.players.Player.{Player}
 use Rattle.set_runs.specs.Playing.{phases_of, AtEach, IsAt, AreSeated}
-use Rattle.set_runs.specs.Runs.{AreAtStart, AreFreshCallers, IsCallersPlay}
+use Rattle.set_runs.specs.Runs.{AreAtStart, IsCallersPlay}
 use Rattle.set_runs.proofs.Progress.{by_recursion_at}
 
 -- what stands at a place of a mapped list comes from what stands there

@@ -1,5 +1,5 @@
 -- What a workload leaves that was played on a set which callers share.
-use Rattle.std.specs.Prelude.{◌≡◌, ℕ, ◌<◌, List, All, length, Some, slice_get, slice_index_or}
+use Rattle.std.specs.Prelude.{◌≡◌, ℕ, ◌<◌, List, length, Some, slice_get, slice_index_or}
 use Rattle.std.specs.Global.{Vec}
 use Rattle.set_model.specs.declared.calls.Call.{Call}
 use Rattle.set_model.specs.declared.calls.Counts.{Counts}
@@ -46,9 +46,3 @@ pub record IsSetRun (s : ShapeFacts) (c : CoverFacts) (steps : Setup → Call �
   pub all_books : length (closed_books closed) ≡ length lists
   pub bounds : List ℕ
   pub each : (i : ℕ) (own : Vec Reply) (book : Book) → slice_get replies i ≡ Some own → slice_get (closed_books closed) i ≡ Some book → IsCallersPlay (steps setup) budget setup c.first i (phases_of lists i) own.items bounds book
-
--- These are the callers of a set that was just made, in order of number: none of them made a step
-pub record AreFreshCallers {T C : Type 0} (has : T → C → Type 0) (set : T) (view : C → View) (setup : Setup) (first : Guard) (callers : List C) : Type 0 where
-  pub all : length callers ≡ setup.callers
-  pub has_each : All (has set) callers
-  pub fresh : (i : ℕ) (d : C) → i < length callers → IsFresh setup first i (view (slice_index_or callers i d))

@@ -1,6 +1,7 @@
 // A whole run.
 ghost use Rattle.std.specs.Prelude.{◌≡◌, ◌≤◌, [], length, vec_capacity, IfOk};
-ghost use Rattle.set_runs.specs.Runs.{AreAtStart, AreFreshCallers, IsSetRun};
+ghost use Rattle.set_api.specs.Callers.{AreFreshCallers};
+ghost use Rattle.set_runs.specs.Runs.{AreAtStart, IsSetRun};
 
 use crate::phases::play_phases;
 use crate::seats::{Seats, leave_all, seat_all};
@@ -62,7 +63,7 @@ pub fn play_set<
     R: Threads + Wait + Sync,
     G: Gate + Sync,
     C: Drop + Send,
-    S: ConcurrentSet<Caller = C> + Sync,
+    S: ConcurrentSet<Caller = C> + Sync + Drop,
 >(
     alloc: Global,
     rt: &R,
