@@ -1,7 +1,12 @@
 -- The callers of a table, one by one and all together.
-use Rattle.std.proofs.Common.{◌≡◌, List, [], ◌∷◌, map, All, refl, sym, ap, ◌∙◌}
+use Rattle.std.proofs.Common.{◌≡◌, ◌+◌, ◌<◌, List, [], ◌∷◌, length, map, get_or, All, refl, sym, ap, ◌∙◌, subst, arith}
+use Rattle.std.proofs.Math.ListN.{get_or-map}
+use Rattle.std.proofs.lemmas.List.{length-map}
 use Rattle.std.proofs.lemmas.List.Elements.{All-nil, All-cons, All-head, All-tail, All-weaker, All-map}
 use Rattle.record_memory.specs.declared.books.View.{View}
+use Rattle.record_memory.specs.declared.books.Guard.{Guard}
+use Rattle.record_rule.proofs.Lists.{at_below, get_at}
+use Rattle.record_table.specs.Made.{IsFresh, AreFreshPasses}
 use Rattle.record_table.specs.declared.table.Table.{Table}
 use Rattle.record_table.specs.declared.passes.Pass.{Pass}
 use Rattle.record_table.specs.Handles.{setup_of, view, IsPassOf}
@@ -9,6 +14,7 @@ use Rattle.record_table.specs.Closing.{own_caller, numbers_from, IsWholePassOf, 
 use Rattle.manager.specs.declared.types.Caller.{Caller}
 use Rattle.manager.specs.Callers.{IsResting}
 use Rattle.manager.specs.Made.{pass_of, passes_of}
+use Rattle.set_api.specs.Callers.{AreFreshCallers}
 use Rattle.michael_hash.specs.Callers.{IsWholeCallerOf}
 
 module _ {S R L : Type 0} where
@@ -39,3 +45,14 @@ module _ {S R L : Type 0} where
 
     pub in_order : (cs : List (Caller S R L)) → AreAllPasses t (passes_of cs) → map (λ c. (view c.pass).own.caller) cs ≡ numbers_from 0 (setup_of t).callers
     in_order cs all = sym (read_off own_caller cs) ∙ all.order
+
+    -- and none of them made a step
+    pub fresh_callers : (first : Guard) (cs : List (Caller S R L)) → AreAllPasses t (passes_of cs) → AreFreshPasses t first (passes_of cs) → All (IsResting is_local) cs → AreFreshCallers (IsWholeCallerOf is_local t) (λ c. view c.pass) (setup_of t) first cs
+    fresh_callers first cs all fresh resting = record {
+      all = sym (length-map cs pass_of) ∙ fresh.all;
+      has_each = whole_callers cs all resting;
+      fresh = λ i d there.
+          let at = at_below (passes_of cs) i (subst (λ n. i < n) (sym (length-map cs pass_of)) there) in
+          let is : pass_of (get_or cs i d) ≡ at.0 = sym (get_or-map pass_of cs i d) ∙ get_at (passes_of cs) i at.0 d.pass at.1 in
+          subst (λ (p : Pass S R). IsFresh (setup_of t) first i (view p)) (sym is) (subst (λ n. IsFresh (setup_of t) first n (view at.0)) (let z : 0 + i ≡ i = omega arith in z) (fresh.each.each_view i at.0 at.1));
+    }

@@ -13,7 +13,9 @@ ghost use Rattle.manager.specs.Made.{passes_of};
 ghost use Rattle.set_calls.specs.Answers.{InsertTells, RemoveTells, SearchTells};
 ghost use Rattle.michael_list.specs.Pieces.{Inserts, Removes, Searches};
 ghost use Rattle.michael_list.specs.Knowing.{IsHome};
+ghost use Rattle.set_api.specs.Callers.{AreFreshCallers};
 ghost use Rattle.michael_hash.specs.Buckets.{bucket_of};
+ghost use Rattle.michael_hash.specs.Callers.{IsWholeCallerOf};
 
 use alloc_api::Allocator;
 use manager::Caller;
@@ -55,6 +57,7 @@ impl<R: Scheme, A: Allocator, P: Pool> MichaelHash<R, A, P> {
         ensures passes { IfOk result (λ made. AreAllPasses made.0.lists.manager.table (passes_of made.1.items)) }
         ensures fresh { IfOk result (λ made. AreFreshPasses made.0.lists.manager.table R.facts.first (passes_of made.1.items)) }
         ensures resting { IfOk result (λ made. All (IsResting R.is_local) made.1.items) }
+        ensures started { IfOk result (λ made. AreFreshCallers (IsWholeCallerOf R.is_local made.0.lists.manager.table) (λ caller. view caller.pass) (setup_of made.0.lists.manager.table) R.facts.first made.1.items) }
     {
         let (lists, callers) = MichaelList::prepare(alloc, records, callers, first, buckets)?;
         Ok((MichaelHash { lists }, callers))

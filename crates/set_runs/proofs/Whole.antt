@@ -102,7 +102,7 @@ whole_phases plan limits i within = by_recursion_at (λ (phases : List (List Cal
 
 -- callers that took their seats are at the start
 pub seated_start : {T C : Type 0} (has : T → C → Type 0) (set' : T) (view : C → View) (setup : Setup) (first : Guard) (lists : List (List (List Call))) (callers : List C) (players : List (Player C))
-    → setup.callers ≡ length lists → AreFreshCallers has set' view setup first callers → AreSeated lists callers players → AreAtStart has set' view setup first lists players
+    → setup.callers ≡ length lists → AreFreshCallers (has set') view setup first callers → AreSeated lists callers players → AreAtStart has set' view setup first lists players
 seated_start has set' view setup first lists callers players count h s =
     let same : length players ≡ length callers = sym (length-map players (λ p. p.caller)) ∙ ap length s.callers_are in
     let its : (i : ℕ) (d : Player _) → i < length players → get_or callers i d.caller ≡ (get_or players i d).caller = λ i d there. ap (λ l. get_or l i d.caller) (sym s.callers_are) ∙ get_or-map (λ p. p.caller) players i d in

@@ -74,7 +74,7 @@ pub fn play_set<
     budget: u32,
 ) -> Result<Played, OutOfMemory>
     requires count { (S.setup set).callers ≡ length workload.now.lists }
-    requires callers { AreFreshCallers S.has set S.view (S.setup set) S.cover.first callers.items }
+    requires callers { AreFreshCallers (S.has set) S.view (S.setup set) S.cover.first callers.items }
     ensures { IfOk result (λ played. IsSetRun S.facts S.cover S.steps budget (S.setup set) workload.now.lists played.replies.items played.counts played.closed) }
 {
     let seats = seat_all(alloc, workload, callers)?;
