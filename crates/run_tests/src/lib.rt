@@ -1,0 +1,11 @@
+//! Tests of runs: workloads with several callers and phases, played by callers in threads of their own on Michael's hash
+//! table without reclamation, and what the closed table adds up to.
+#![tactic(auto)]
+
+mod hash_runs;
+#[cfg(test)]
+mod rows;
+#[cfg(test)]
+mod side_by_side;
+
+pub use hash_runs::play_hash;
