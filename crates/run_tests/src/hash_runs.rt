@@ -1,10 +1,6 @@
 // Runs on the hash table.
-ghost use Rattle.std.specs.Prelude.{◌≡◌, ◌+◌, ◌*◌, ◌<◌, ◌≤◌, length, IfOk};
-ghost use Rattle.set_model.specs.declared.names.SetName.TheVariants.{Michael};
-ghost use Rattle.set_model.specs.declared.names.ReclaimerName.TheVariants.{Nothing};
-ghost use Rattle.set_model.specs.declared.names.AllocatorName.TheVariants as allocator;
-ghost use Rattle.record_table.specs.Made.{setup_with};
-ghost use Rattle.record_table.specs.Closing.{closed_setup, IsClosedBy};
+ghost use Rattle.std.specs.Prelude.{◌<◌, ◌≤◌, IfSome};
+ghost use Rattle.record_table.specs.Closing.{IsClosedBy};
 ghost use Rattle.list_facts.specs.Michael.{michael};
 ghost use Rattle.cover_facts.specs.Keeping.{none};
 
@@ -32,11 +28,17 @@ pub fn play_hash<R: Threads + Wait + Sync, G: Gate + Sync>(
 ) -> Option<Played>
     requires records { records ≤ 1048575 }
     requires buckets { 0 < buckets }
+    ensures { IfSome result (λ played. IsClosedBy michael none played.closed) }
 {
     let first = Generation::new(1)?;
     let callers = workload.callers();
-    let (hash, callers) = MichaelHash::<NoReclaim, Bump, NoPool>::prepare(
+    let Ok((hash, callers)) = MichaelHash::<NoReclaim, Bump, NoPool>::prepare(
         alloc, records, callers, first, buckets,
-    ).ok()?;
-    play_set(alloc, rt, gate, hash, callers, workload, 2 * records + 64).ok()
+    ) else {
+        return None;
+    };
+    let Ok(played) = play_set(alloc, rt, gate, hash, callers, workload, 2 * records + 64) else {
+        return None;
+    };
+    Some(played)
 }
