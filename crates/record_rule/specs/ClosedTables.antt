@@ -34,7 +34,7 @@ pub record IsWhole (s : ShapeFacts) (setup : Setup) (books : List Book) (history
   pub answered : AreAllAnswered books → waiting ≡ []
   pub unhelped : ¬ s.helped → waiting ≡ []
 
--- Each step on a record found the generation that its caller reached, a record was handed out again only after it was taken out once,
+-- Each step that was recorded as one on a held record found that record's generation, a record was handed out again only after it was taken out once,
 -- and what the records show is one legal history of the set, each answered call once, in its caller's order
 pub record ClosedFits (s : ShapeFacts) (c : CoverFacts) (setup : Setup) (words : List ℕ) (books : List Book) (history : List Update) : Type 0 where
   -- the numbers and the names that the table was made with
@@ -42,7 +42,7 @@ pub record ClosedFits (s : ShapeFacts) (c : CoverFacts) (setup : Setup) (words :
   pub set_is : setup.set ≡ s.name
   pub reclaimer_is : setup.reclaimer ≡ c.name
   pub wide : length words ≡ size setup.callers setup.records
-  -- each step on a held record found its generation
+  -- each step that was recorded as one on a held record found its generation; that its caller held it then, the call says that made it
   pub found : (d : ℕ) (b : Book) → At books d b → (n : ℕ) (t : Step) → At b.steps n t → StepFits setup d t
   -- each record is in one place, with the row and the generation that the words show, and with the callers that have it
   pub records : List Record
