@@ -2,7 +2,7 @@
 ghost use Rattle.std.specs.Prelude.{None};
 
 use super::*;
-use crate::tests::{COMMAND, makes, run_on, words_of};
+use crate::tests::{COMMAND, REPORT, WORKLOAD, makes, run_on, words_of};
 use outside::{FreeGate, MemorySink, Source, Taking};
 use std::test::Fail;
 
@@ -47,6 +47,22 @@ fn each_take_fails_in_turn(rt: HostRuntime) -> Result<(), Fail> {
         assert_eq!(rt; end.got.as_slice(), text.as_bytes(), "at {fails}");
         assert_eq!(rt; end.has_run, status == 0, "at {fails}");
     }
+    Ok(())
+}
+
+// One caller's workload: the second take fails, and then the third put of at most ten bytes.
+#[test]
+fn one_take_or_one_put_fails(rt: HostRuntime) -> Result<(), Fail> {
+    let bytes = WORKLOAD.as_bytes();
+    let end = run_on(&rt, rt.alloc(), &COMMAND, bytes, &[2], 10, &[])?;
+    assert_eq!(rt; end.status, 6);
+    assert!(rt; end.got.is_empty());
+    let end = run_on(&rt, rt.alloc(), &COMMAND, bytes, &[], 10, &[3])?;
+    assert_eq!(rt; end.status, 7);
+    assert_eq!(rt; end.got.as_slice(), b"set plain reclaimer ".as_slice());
+    let end = run_on(&rt, rt.alloc(), &COMMAND, bytes, &[], 10, &[])?;
+    assert_eq!(rt; end.status, 0);
+    assert_eq!(rt; end.got.as_slice(), REPORT.as_bytes());
     Ok(())
 }
 

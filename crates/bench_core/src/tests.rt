@@ -181,6 +181,24 @@ fn plays_phase_by_phase(rt: HostRuntime) -> Result<(), Fail> {
     Ok(())
 }
 
+// What one caller does in the first phase, the other one finds in the second, also where it has no call there.
+#[test]
+fn finds_in_the_second_phase_what_the_first_left(rt: HostRuntime) -> Result<(), Fail> {
+    let alloc = rt.alloc();
+    let text = "setbench 2\ncallers 2\ncaller 0\ns 1\nphase\ns 1\ncaller 1\ni 1\nphase\nend\n";
+    let end = run_on(&rt, alloc, &COMMAND, text.as_bytes(), &[], 4096, &[])?;
+    assert_eq!(rt; end.status, 0);
+    let report =
+        "set plain reclaimer none callers 2 calls 3\ncaller 0\ns 1 no\ns 1 yes\ncaller 1\ni 1 yes\nsize 1 sum 1\nrecords drawn 0 reused 0 retired 0 freed 0 limbo 0 free 0 spare 0 spent 0\n";
+    assert_eq!(rt; end.got.as_slice(), report.as_bytes());
+    let end = run_on(&rt, alloc, &["check"], text.as_bytes(), &[], 4096, &[])?;
+    assert_eq!(rt;
+        end.got.as_slice(),
+        b"ok callers 2 calls 3 phases 1\n".as_slice()
+    );
+    Ok(())
+}
+
 #[test]
 fn other_commands(rt: HostRuntime) -> Result<(), Fail> {
     let alloc = rt.alloc();
@@ -236,6 +254,11 @@ fn makes_and_plays_workloads(rt: HostRuntime) -> Result<(), Fail> {
             true,
             ["2", "40", "5", "7"],
             "trial plain none callers 2 calls 80\ninserted 16 removed 12 found 11\nsize 4 sum 17\n",
+        ),
+        (
+            true,
+            ["4", "20000", "1000", "7"],
+            "trial plain none callers 4 calls 80000\ninserted 15022 removed 12384 found 12532\nsize 2638 sum 5208886\n",
         ),
         (
             true,
