@@ -40,7 +40,7 @@ of_keys Plain updates u legal = legal
 of_keys Michael updates u legal = legal
 of_keys Lazy updates u legal = legal
 
-tells_keys : (name : SetName) (updates : List Update) (call : Call) (r : Bool) → replies_for name updates call r → set_replies updates call r
+pub tells_keys : (name : SetName) (updates : List Update) (call : Call) (r : Bool) → replies_for name updates call r → set_replies updates call r
 tells_keys Plain updates call r told = told
 tells_keys Michael updates call r told = told
 tells_keys Lazy updates call r told = told

@@ -1,5 +1,5 @@
 -- One element of a list is put in, and what holds place by place stays.
-use Rattle.std.proofs.Common.{◌≡◌, ◌≢◌, ℕ, ◌<◌, List, length, length-set, get_or, set, sym, ◌∙◌, subst, ⊎_elim}
+use Rattle.std.proofs.Common.{◌≢◌, ℕ, ◌<◌, List, length, length-set, get_or, set, sym, ◌∙◌, subst, ⊎_elim}
 use Rattle.std.proofs.lemmas.Bool.Decides.{eqb_tells}
 use Rattle.std.proofs.lemmas.List.{get_or-set_same, get_or-set_other}
 use Rattle.set_runs.specs.Playing.{AtEach}

@@ -2,16 +2,16 @@
 use Rattle.std.proofs.Common.{◌≡◌, ℕ, zero, suc, ◌+◌, ◌≤◌, ◌<◌, List, [], ◌∷◌, ◌++◌, length, length-append, get_or, take, sum_by, vec_capacity, refl, sym, ap, ◌∙◌, subst, arith, add-one}
 use Rattle.std.specs.List.{AllByRecursion}
 use Rattle.std.proofs.Math.Seq.{take-suc}
-use Rattle.std.proofs.lemmas.List.Sums.{sum_by-append, sum_by-cons, sum_by_push, sum_by_more_le, get_or-le-sum_by}
+use Rattle.std.proofs.lemmas.List.Sums.{sum_by_push, sum_by_more_le, get_or-le-sum_by}
 use Rattle.set_model.specs.declared.calls.Call.{Call}
 use Rattle.set_model.specs.declared.calls.Reply.{Reply}
 use Rattle.record_memory.specs.declared.books.Book.{Book}
 use Rattle.record_memory.specs.declared.books.View.{View}
 use Rattle.workload_text.specs.Limits.{Plan, IsWorkload, phase_lines}
 use Rattle.set_api.specs.declared.answer.Answer.{Answer}
-use Rattle.set_api.specs.Turns.{Turn, Turns, Phases}
+use Rattle.set_api.specs.Turns.{Turns, Phases}
 use Rattle.set_runs.specs.declared.players.Player.{Player}
-use Rattle.set_runs.specs.Playing.{phases_of, calls_at, AtEach, HasMet, IsReady, HasPlayed, IsAt}
+use Rattle.set_runs.specs.Playing.{phases_of, calls_at, HasMet, IsReady, HasPlayed, IsAt}
 
 -- what holds of each element holds of the one at a place
 pub by_recursion_at : {X : Type 0} (P : X → Type 0) (xs : List X) (i : ℕ) (d : X) → AllByRecursion P xs → i < length xs → P (get_or xs i d)

@@ -1,5 +1,5 @@
 -- A run from its start to the closed table.
-use Rattle.std.proofs.Common.{◌≡◌, ℕ, zero, suc, ◌+◌, ◌<◌, List, [], ◌∷◌, ◌++◌, length, map, get_or, take, sum_by, Some, slice_get, refl, sym, ap, ◌∙◌, subst, arith}
+use Rattle.std.proofs.Common.{◌≡◌, ℕ, zero, suc, ◌+◌, ◌<◌, List, [], ◌∷◌, ◌++◌, length, map, get_or, take, Some, slice_get, refl, sym, ap, ◌∙◌, subst, arith}
 use Rattle.std.proofs.Math.Seq.{take-length, take-append_seam}
 use Rattle.std.proofs.Math.ListN.{get_or-map}
 use Rattle.std.proofs.lemmas.List.{length-map}
@@ -16,7 +16,7 @@ use Rattle.record_table.specs.Made.{IsFresh}
 use Rattle.workload_text.specs.Limits.{Plan, IsWorkload, phase_lines}
 use Rattle.set_api.specs.declared.answer.Answer.{Answer}
 use Rattle.set_api.specs.Callers.{AreFreshCallers}
-use Rattle.set_api.specs.Turns.{Repeats, Turn, Turns, Phases}
+use Rattle.set_api.specs.Turns.{Repeats, Turns, Phases}
 use Rattle.set_runs.specs.declared.players.Player.{Player}
 use Rattle.set_runs.specs.Playing.{phases_of, AtEach, IsAt, AreSeated}
 use Rattle.set_runs.specs.Runs.{AreAtStart, IsCallersPlay}

@@ -1,7 +1,4 @@
-use Rattle.std.proofs.Common.{◌≡◌, ◌<◌, ◌≤◌, length, All, arith, subst, sym, ◌∙◌}
-use Rattle.std.proofs.lemmas.List.Elements.{All-from_get_or}
-use Rattle.set_runs.specs.declared.players.Player.{Player}
-use Rattle.set_runs.proofs.Learning.{gathering_none, gathering_more}
+use Rattle.set_runs.proofs.Learning.{gathering_more}
 use Rattle.set_runs.proofs.meeting.gather.Goals as goal
 
 pub loop-at-preserved : goal.loop-at-preserved

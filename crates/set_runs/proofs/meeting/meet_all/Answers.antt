@@ -1,4 +1,4 @@
-use Rattle.std.proofs.Common.{◌≡◌, ◌<◌, ◌∷◌, length, refl, sym, subst, arith}
+use Rattle.std.proofs.Common.{◌∷◌, length, refl, sym, subst, arith}
 use Rattle.set_runs.specs.Playing.{AtEach, HasMet}
 use Rattle.set_runs.proofs.Learning.{all_met}
 use Rattle.set_runs.proofs.meeting.meet_all.Goals as goal

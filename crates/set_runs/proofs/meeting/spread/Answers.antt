@@ -1,6 +1,4 @@
-use Rattle.std.proofs.Common.{◌≡◌, ◌<◌, ◌≤◌, length, All, arith, subst, sym, ◌∙◌}
-use Rattle.std.proofs.lemmas.List.Elements.{All-from_get_or}
-use Rattle.set_runs.proofs.Learning.{spreading_none, spreading_more}
+use Rattle.set_runs.proofs.Learning.{spreading_more}
 use Rattle.set_runs.proofs.meeting.spread.Goals as goal
 
 pub loop-at-preserved : goal.loop-at-preserved

@@ -1,7 +1,5 @@
-use Rattle.std.proofs.Common.{◌≡◌, length, refl, arith}
-use Rattle.std.proofs.lemmas.List.Elements.{All-get_or}
-use Rattle.record_rule.proofs.Rebuilt.{starts_itself}
-use Rattle.set_runs.proofs.Learning.{same_player, met_nobody}
+use Rattle.std.proofs.Common.{refl, arith}
+use Rattle.set_runs.proofs.Learning.{met_nobody}
 use Rattle.set_runs.proofs.phases.begin_phase.Goals as goal
 
 pub returns-else-phase-gt0 : goal.returns-else-phase-gt0

@@ -1,4 +1,4 @@
-use Rattle.std.proofs.Common.{◌≡◌, ◌∙◌, subst, length, get_or}
+use Rattle.std.proofs.Common.{subst, get_or}
 use Rattle.set_runs.specs.Playing.{HasPlayed}
 use Rattle.set_runs.proofs.phases.play_phase.Goals as goal
 

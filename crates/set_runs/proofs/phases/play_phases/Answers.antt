@@ -1,4 +1,4 @@
-use Rattle.std.proofs.Common.{◌≡◌, ◌+◌, ◌<◌, ◌≤◌, ◌++◌, ◌∷◌, [], length, get_or, sym, ◌∙◌, subst, arith}
+use Rattle.std.proofs.Common.{◌<◌, ◌++◌, ◌∷◌, [], length, get_or, sym, ◌∙◌, subst, arith}
 use Rattle.set_runs.proofs.Progress.{phases_there, calls_few, ready_next, at_next}
 use Rattle.set_runs.proofs.phases.play_phases.Goals as goal
 

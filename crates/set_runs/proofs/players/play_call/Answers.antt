@@ -1,4 +1,3 @@
-use Rattle.std.proofs.Common.{◌≡◌}
 use Rattle.set_api.specs.Turns.{Repeats}
 use Rattle.set_runs.proofs.players.play_call.Goals as goal
 

@@ -1,4 +1,4 @@
-use Rattle.std.proofs.Common.{◌≡◌, ℕ, ◌<◌, ◌++◌, length, map, get_or, vec_len}
+use Rattle.std.proofs.Common.{◌≡◌, ℕ, ◌<◌, ◌++◌, length, map, get_or}
 use Rattle.std.specs.Vec.Iter.{into_iter_items}
 use Rattle.set_runs.specs.Playing.{IsSeated}
 use Rattle.set_runs.specs.declared.players.Player.{Player}
