@@ -2,10 +2,7 @@
 //! table without reclamation, and what the closed table adds up to.
 #![tactic(auto)]
 
-mod hash_runs;
 #[cfg(test)]
 mod rows;
 #[cfg(test)]
 mod side_by_side;
-
-pub use hash_runs::play_hash;

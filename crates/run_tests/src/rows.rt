@@ -1,8 +1,8 @@
 // Runs whose replies don't depend on the schedule, as one table.
 ghost use Rattle.std.specs.Prelude.{◌<◌, ◌≤◌};
 
-use crate::hash_runs::play_hash;
 use closed_lists::show_lists;
+use hash_runs::play_hash_none;
 use key_sums::size_and_sum;
 use michael_list::MichaelShape;
 use outside::FreeGate;
@@ -42,11 +42,12 @@ fn leaves<R: Threads + Wait + Sync>(
 ) -> bool
     requires records { records ≤ 1048575 }
     requires buckets { 0 < buckets }
+    requires room { buckets ≤ records }
 {
     let Ok(workload) = read_workload(alloc, text) else {
         return false;
     };
-    let Some(played) = play_hash(alloc, rt, &FreeGate, &workload, records, buckets) else {
+    let Ok(played) = play_hash_none(alloc, rt, &FreeGate, &workload, records, buckets) else {
         return false;
     };
     show_lists::<MichaelShape, NoReclaim>(&played.closed);
@@ -166,7 +167,9 @@ fn one_of_two_callers_adds_a_key(rt: HostRuntime) -> Result<(), Fail> {
     let text = b"setbench 1\ncallers 2\ncaller 0\ni 9\ncaller 1\ni 9\nend\n";
     let alloc = rt.alloc();
     let workload = read_workload(alloc, text).ok().ok_or("a workload")?;
-    let played = play_hash(alloc, &rt, &FreeGate, &workload, 66, 64).ok_or("a run")?;
+    let Ok(played) = play_hash_none(alloc, &rt, &FreeGate, &workload, 66, 64) else {
+        return Err(Fail::from("a run"));
+    };
     let first = are_told(&played.replies, &[Yes, No]);
     let second = are_told(&played.replies, &[No, Yes]);
     assert!(rt; first || second);

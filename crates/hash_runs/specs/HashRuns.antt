@@ -1,0 +1,27 @@
+-- What a run on the hash table leaves, by its reclaimer.
+use Rattle.std.specs.Prelude.{ℕ, ◌+◌, ◌*◌, List, length}
+use Rattle.std.specs.Global.{Vec}
+use Rattle.set_model.specs.declared.calls.Call.{Call}
+use Rattle.set_model.specs.declared.calls.Counts.{Counts}
+use Rattle.set_model.specs.declared.calls.Reply.{Reply}
+use Rattle.set_model.specs.declared.names.SetName.TheVariants.{Michael}
+use Rattle.set_model.specs.declared.names.ReclaimerName.TheVariants.{Nothing}
+use Rattle.set_model.specs.declared.names.AllocatorName.TheVariants.{Bump}
+use Rattle.record_table.specs.Made.{setup_with}
+use Rattle.record_table.specs.declared.closing.Closed.{Closed}
+use Rattle.record_pieces.specs.Manners.{Manner}
+use Rattle.reclaim_none.specs.Running.{Enters, Leaves, Bears, Reaches, PutsAway}
+use Rattle.alloc_bump.specs.Bumps.{Draws, Refuses}
+use Rattle.manager.specs.Manners.{manner}
+use Rattle.cover_facts.specs.Keeping.{none}
+use Rattle.list_facts.specs.Michael.{michael}
+use Rattle.michael_hash.specs.Pieces.{MakesPiece}
+use Rattle.set_runs.specs.Runs.{IsSetRun}
+
+-- the steps of no reclamation, of the allocator that counts in one word and of the pool without shelves
+abbrev pub none_manner : Manner
+none_manner = manner Enters Leaves Bears Reaches PutsAway Draws Refuses 0 (λ steps. ⊥)
+
+-- A run on a table of so many records and buckets, prepared at generation 1, within the budget of hops that a run gives each call
+abbrev pub IsNoneRun : ℕ → ℕ → List (List (List Call)) → List (Vec Reply) → Counts → Closed → Type 0
+IsNoneRun records buckets lists replies counts closed = IsSetRun michael none (MakesPiece none_manner) (2 * records + 64) (setup_with records buckets (length lists) 1 Michael Nothing Bump) lists replies counts closed

@@ -1,0 +1,51 @@
+// Runs under no reclamation.
+ghost use Rattle.std.specs.Prelude.{◌<◌, ◌≤◌, IfOk};
+ghost use Rattle.hash_runs.specs.HashRuns.{IsNoneRun};
+
+use alloc_bump::Bump;
+use michael_hash::MichaelHash;
+use outside::Gate;
+use pool::NoPool;
+use reclaim_none::NoReclaim;
+use record_table::PrepareError;
+use row_words::Generation;
+use set_model::OutOfMemory;
+use set_runs::{Played, play_set};
+use std::alloc::Global;
+use std::sync::Wait;
+use std::thread::Threads;
+use workload_text::Workload;
+
+/// Plays the workload on an empty hash table of `records` records, at most 1,048,575, of which the first `buckets`, at
+/// least 1, are the buckets. Records aren't reclaimed, and are drawn from one shared count. The one refusal is want of
+/// memory, before the first call is made.
+pub fn play_hash_none<R: Threads + Wait + Sync, G: Gate + Sync>(
+    alloc: Global,
+    rt: &R,
+    gate: &G,
+    workload: &Workload,
+    records: u32,
+    buckets: u32,
+) -> Result<Played, OutOfMemory>
+    requires most { records ≤ 1048575 }
+    requires buckets { 0 < buckets }
+    requires room { buckets ≤ records }
+    ensures { IfOk result (λ played. IsNoneRun records buckets workload.now.lists played.replies.items played.counts played.closed) }
+{
+    let Some(first) = Generation::new(1) else {
+        unreachable!()
+    };
+    let made = MichaelHash::<NoReclaim, Bump, NoPool>::prepare(
+        alloc,
+        records,
+        workload.callers(),
+        first,
+        buckets,
+    );
+    let (hash, callers) = match made {
+        Ok(made) => made,
+        Err(PrepareError::OutOfMemory) => return Err(OutOfMemory),
+        Err(PrepareError::Records | PrepareError::Callers) => unreachable!(),
+    };
+    play_set(alloc, rt, gate, hash, callers, workload, 2 * records + 64)
+}
