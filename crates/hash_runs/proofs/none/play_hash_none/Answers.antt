@@ -18,4 +18,4 @@ pub returns : goal.returns
 returns g c =
     let lists = c.args.workload.now.lists in
     subst (λ k. IfOk c.play_set.result (λ played. IsSetRun michael none (MakesPiece none_manner) (2 * c.args.records + 64) k lists played.replies.items played.counts played.closed))
-      (c.in-Ok.ensures.table ∙ ap (λ n. setup_with c.args.records c.args.buckets n c.in-Some.first Michael Nothing Bump) c.callers.ensures.count ∙ ap (λ n. setup_with c.args.records c.args.buckets (length lists) n Michael Nothing Bump) c.in-Some.ensures.0) c.play_set.ensures
+    (c.in-Ok.ensures.table ∙ ap (λ n. setup_with c.args.records c.args.buckets n c.in-Some.first Michael Nothing Bump) c.callers.ensures.count ∙ ap (λ n. setup_with c.args.records c.args.buckets (length lists) n Michael Nothing Bump) c.in-Some.ensures.0) c.play_set.ensures
