@@ -124,26 +124,23 @@ plain_alone sizes unshared plan is report played = λ caller one there.
     let own = called_at sizes 0 sizes.callers caller caller one.calls (omega arith) calls in
     played.replies caller one there ∙ ap (λ (p : Plan). told_to caller (order_of p.lists) empty) is ∙ told_alone sizes unshared caller own.1 ∙ ap (λ calls. replies_of calls empty) (sym own.0)
 
-plain_run : (set : SetName) (reclaimer : ReclaimerName) (plan : Plan) (run : Run) → IsRun set reclaimer plan run → IsPlainRun plan run.report
-plain_run Plain reclaimer plan run played = played
-plain_run Michael reclaimer plan run played = absurd played
-plain_run Lazy reclaimer plan run played = absurd played
+-- a trial on a set that is played
+played_alone : (set : SetName) (reclaimer : ReclaimerName) (chosen : PlayWords) (sizes : GenPlan) → sizes.shared ≡ false → (plan : Plan) → plan ≡ plan_of (generated sizes) → (run : Run)
+    → IsPlayed set reclaimer chosen plan run → calls_of run.report.callers ≡ joined plan.lists → has_full run.report.callers ≡ false → AreAlone run.report.callers
+played_alone Plain Nothing chosen sizes unshared plan is run played calls no_full = plain_alone sizes unshared plan is run.report played.1
+played_alone Michael Nothing chosen sizes unshared plan is run played calls no_full = hash_alone sizes unshared plan is run.report played.0 chosen played.2 calls no_full
+played_alone Plain Debra chosen sizes unshared plan is run played calls no_full = absurd played
+played_alone Plain Hazard chosen sizes unshared plan is run played calls no_full = absurd played
+played_alone Plain Ibr chosen sizes unshared plan is run played calls no_full = absurd played
+played_alone Michael Debra chosen sizes unshared plan is run played calls no_full = absurd played
+played_alone Michael Hazard chosen sizes unshared plan is run played calls no_full = absurd played
+played_alone Michael Ibr chosen sizes unshared plan is run played calls no_full = absurd played
+played_alone Lazy Nothing chosen sizes unshared plan is run played calls no_full = absurd played
+played_alone Lazy Debra chosen sizes unshared plan is run played calls no_full = absurd played
+played_alone Lazy Hazard chosen sizes unshared plan is run played calls no_full = absurd played
+played_alone Lazy Ibr chosen sizes unshared plan is run played calls no_full = absurd played
 
--- a verdict of a trial with a run
-pub alone_found : {S : Type 0} (left : S → Option (List ℕ)) (before after : S) (chosen : TrialWords) (found : Verdict) (run : Run) → chosen.workload.shared ≡ false
-    → FindsIn left before after (command.Trial chosen) found → run_of found ≡ Some run → AreAlone run.report.callers
-alone_found left before after chosen verdict.WordsRefused run unshared finds is = absurd finds
-alone_found left before after chosen (verdict.Unlawful pair) run unshared finds is = absurd (none_is run is)
-alone_found left before after chosen verdict.ReadFault run unshared finds is = absurd finds.0
-alone_found left before after chosen verdict.TooLong run unshared finds is = absurd finds.0
-alone_found left before after chosen (verdict.WorkloadRefused cause) run unshared finds is = absurd finds.0
-alone_found left before after chosen verdict.OutOfMemory run unshared finds is = absurd (none_is run is)
-alone_found left before after chosen (verdict.Checked sizes) run unshared finds is = absurd (none_is run is)
-alone_found left before after chosen (verdict.Generated text) run unshared finds is = absurd (none_is run is)
-alone_found left before after chosen (verdict.Played other) run unshared finds is = absurd (let same : command.Trial chosen ≡ command.Play finds.0 = finds.1 in cc)
-alone_found left before after chosen (verdict.Tried other) run unshared finds is =
-    let words = finds.0 in
-    let same : chosen ≡ words = let trials : command.Trial chosen ≡ command.Trial words = finds.1 in cc in
-    let made = finds.5 in
-    let own : made.0.shared ≡ false = made.1.shared ∙ ap (λ (w : TrialWords). w.workload.shared) (sym same) ∙ unshared in
-    subst (λ (r : Run). AreAlone r.report.callers) (some_is other run is) (plain_alone made.0 own finds.4 made.2 other.report (plain_run words.set words.reclaimer finds.4 other finds.6))
+pub trial_alone : (chosen : TrialWords) → chosen.workload.shared ≡ false → (plan : Plan) → IsMade chosen.workload plan → (run : Run) → IsRun (played_as chosen) plan run
+    → has_full run.report.callers ≡ false → AreAlone run.report.callers
+trial_alone chosen unshared plan made run r no_full =
+    played_alone chosen.set chosen.reclaimer (played_as chosen) made.0 (made.1.shared ∙ unshared) plan made.2 run r.played r.calls no_full

@@ -37,7 +37,8 @@ use Rattle.bench_core.proofs.ReadingLemmas.{Gave-same, GaveAll-is, Gave-length-l
 use Rattle.bench_core.specs.Sizes.{sizes_of}
 use Rattle.bench_core.specs.Ending.{AreNoCommand, Counts, Ends, Finds, FindsIn, FindsMade, GaveNoWorkload, GaveWorkload, HasParts, HasText, IsAllowed, IsMade, NamesUnlawful, Reads, Tells, has_full, status_with, output_of, run_of, status_of, status_of_run}
 use Rattle.bench_core.specs.Plays.{AreAlone}
-use Rattle.bench_core.proofs.Alone.{alone_found}
+use Rattle.bench_core.specs.Settings.{played_as}
+use Rattle.bench_core.proofs.Alone.{trial_alone}
 use Rattle.bench_core.proofs.NeverFull.{run-not_full}
 use Rattle.bench_core.proofs.Telling.{status_of_run-is}
 use Rattle.bench_core.proofs.Verdicts.{is_WordsRefused, is_Unlawful, is_ReadFault, is_TooLong, is_WorkloadRefused, is_OutOfMemory}
@@ -313,8 +314,8 @@ module _ {S K : Type 0} {left : S → Option (List ℕ)} {source_faults : S → 
 
   pub never_full : (r : Run) → ended.run ≡ Some r → r.report.set ≡ Plain → has_full r.report.callers ≡ false
   never_full r is plain = elim (run r is).2 [
-    | inl play ↦ run-not_full play.chosen.set play.chosen.reclaimer play.plan r play.played plain
-    | inr trial ↦ run-not_full trial.chosen.set trial.chosen.reclaimer trial.plan r trial.played plain
+    | inl play ↦ run-not_full play.chosen.set play.chosen.reclaimer play.chosen play.plan r play.played.played play.played.set_is plain
+    | inr trial ↦ let words = played_as trial.chosen in run-not_full words.set words.reclaimer words trial.plan r trial.played.played trial.played.set_is plain
   ]
 
   five_found : (found : Verdict) → status_of found ≡ 5 → (run : Run) × (run_of found ≡ Some run) × (has_full run.report.callers ≡ true)
@@ -528,7 +529,10 @@ module _ {S K : Type 0} {left : S → Option (List ℕ)} {source_faults : S → 
   ])
 
   pub alone : (chosen : TrialWords) → IsCommand words (command.Trial chosen) → (run : Run) → ended.run ≡ Some run → has_full run.report.callers ≡ false → AreAlone run.report.callers
-  alone chosen named run is no_full = alone_found left source source' chosen e.found run (not_shared words chosen named.0) (of_command (command.Trial chosen) named) (sym e.concludes.run ∙ is)
+  alone chosen named r is no_full = elim (run r is).2 [
+    | inl play ↦ absurd (let same : command.Trial chosen ≡ command.Play play.chosen = one_command words (command.Trial chosen) (command.Play play.chosen) named play.named in cc)
+    | inr trial ↦ trial_alone trial.chosen (not_shared words trial.chosen trial.named.0) trial.plan trial.made r trial.played no_full
+  ]
 
 -- a text that was made isn't empty
 pub in_text : {S : Type 0} (left : S → Option (List ℕ)) (before after : S) (chosen : Command) (found : Verdict) → FindsIn left before after chosen found → HasText found

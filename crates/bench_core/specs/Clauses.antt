@@ -19,6 +19,7 @@ use Rattle.workload_text.specs.Text.{IsTextOf, text_of}
 use Rattle.bench_core.specs.declared.ending.Ended.{Ended}
 use Rattle.bench_core.specs.declared.ending.Run.{Run}
 use Rattle.bench_core.specs.Ending.{GaveNoWorkload, GaveWorkload, IsAllowed, IsMade, IsRun, NamesUnlawful, Reads, has_full}
+use Rattle.bench_core.specs.Settings.{played_as}
 use Rattle.bench_core.specs.Sizes.{sizes_of}
 
 -- the words name a command that reads a workload
@@ -76,7 +77,7 @@ pub record IsPlayOf {S : Type 0} (left : S → Option (List ℕ)) (before after 
   pub named : IsCommand words (command.Play chosen)
   pub plan : Plan
   pub gave : GaveWorkload left before after plan
-  pub played : IsRun chosen.set chosen.reclaimer plan run
+  pub played : IsRun chosen plan run
   pub report : text ≡ report_text run.report
 
 pub record IsTrialOf {S : Type 0} (before after : S) (words : List (List ℕ)) (run : Run) (text : List ℕ) : Type 0 where
@@ -85,7 +86,7 @@ pub record IsTrialOf {S : Type 0} (before after : S) (words : List (List ℕ)) (
   pub same : after ≡ before
   pub plan : Plan
   pub made : IsMade chosen.workload plan
-  pub played : IsRun chosen.set chosen.reclaimer plan run
+  pub played : IsRun (played_as chosen) plan run
   pub summary : text ≡ summary_text run.report
 
 abbrev pub IsRunOf : {S : Type 0} → (S → Option (List ℕ)) → S → S → List (List ℕ) → Run → List ℕ → Type 0

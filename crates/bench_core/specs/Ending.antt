@@ -9,6 +9,8 @@ use Rattle.command_words.specs.declared.command.Workloads.{Workloads}
 use Rattle.lawful_pairs.specs.Table.{is_lawful}
 use Rattle.lawful_pairs.specs.declared.Unlawful.{Unlawful}
 use Rattle.outside.specs.Faults.{one_more}
+use Rattle.paired_replies.specs.Pairs.{calls_of}
+use Rattle.record_table.specs.declared.closing.Closed.{Closed}
 use Rattle.report_text.specs.LineTexts.{checked_text, refusal_text}
 use Rattle.report_text.specs.ReportText.{report_text}
 use Rattle.report_text.specs.SummaryText.{summary_text}
@@ -20,11 +22,12 @@ use Rattle.report_text.specs.declared.report.Report.{Report}
 use Rattle.set_model.specs.declared.calls.Reply.{Reply}
 use Rattle.set_model.specs.declared.calls.Reply.TheVariants.{Yes, No, Full}
 use Rattle.set_model.specs.declared.names.ReclaimerName.{ReclaimerName}
+use Rattle.set_model.specs.declared.names.ReclaimerName.TheVariants.{Nothing}
 use Rattle.set_model.specs.declared.names.SetName.{SetName}
-use Rattle.set_model.specs.declared.names.SetName.TheVariants.{Plain, Michael, Lazy}
+use Rattle.set_model.specs.declared.names.SetName.TheVariants.{Plain, Michael}
 use Rattle.workload_gen.specs.Generated.{generated}
 use Rattle.workload_gen.specs.declared.plan.GenPlan.{GenPlan}
-use Rattle.workload_text.specs.Limits.{Plan, plan_of}
+use Rattle.workload_text.specs.Limits.{Plan, joined, plan_of}
 use Rattle.workload_text.specs.Text.{IsTextOf, text_of}
 use Rattle.bench_core.specs.declared.ending.Ended.{Ended}
 use Rattle.bench_core.specs.declared.ending.Run.{Run}
@@ -32,7 +35,9 @@ use Rattle.bench_core.specs.declared.ending.Verdict.{Verdict}
 use Rattle.bench_core.specs.declared.ending.Verdict.TheVariants as verdict
 use Rattle.bench_core.specs.Plays.{IsPlainRun}
 use Rattle.bench_core.specs.Reading.{GaveAll, GaveTooMany, GaveFew}
+use Rattle.bench_core.specs.Settings.{played_as}
 use Rattle.bench_core.specs.Sizes.{sizes_of, IsRefusedFor, IsPlanOf}
+use Rattle.bench_core.specs.Tables.{IsHashRun}
 
 -- some reply is full
 abbrev pub is_full : Reply → Bool
@@ -75,11 +80,18 @@ pub record GaveWorkload {S : Type 0} (left : S → Option (List ℕ)) (before af
   pub few : length bytes ≤ 67108864
   pub text : IsTextOf bytes plan
 
--- A run of the workload on this set under this reclaimer. A set that joins adds its case.
-abbrev pub IsRun : SetName → ReclaimerName → Plan → Run → Type 0
-IsRun Plain reclaimer plan run = IsPlainRun plan run.report
-IsRun Michael reclaimer plan run = ⊥
-IsRun Lazy reclaimer plan run = ⊥
+-- What was played, by the set and the reclaimer. A pair that joins adds its case.
+abbrev pub IsPlayed : SetName → ReclaimerName → PlayWords → Plan → Run → Type 0
+IsPlayed Plain Nothing chosen plan run = (run.closed ≡ None) × IsPlainRun plan run.report
+IsPlayed Michael Nothing chosen plan run = (closed : Closed) × (run.closed ≡ Some closed) × IsHashRun chosen plan.lists run.report closed
+IsPlayed set reclaimer chosen plan run = ⊥
+
+-- A run of the workload on the set and under the reclaimer that the words choose, with its report
+pub record IsRun (chosen : PlayWords) (plan : Plan) (run : Run) : Type 0 where
+  pub set_is : run.report.set ≡ chosen.set
+  pub reclaimer_is : run.report.reclaimer ≡ chosen.reclaimer
+  pub calls : calls_of run.report.callers ≡ joined plan.lists
+  pub played : IsPlayed chosen.set chosen.reclaimer chosen plan run
 
 -- the command names a set and a reclaimer
 abbrev pub HasParts : Command → SetName → ReclaimerName → Type 0
@@ -133,10 +145,10 @@ FindsIn left before after chosen (verdict.Generated text) =
     (words : Workloads) × (chosen ≡ command.Generate words) × (after ≡ before) × (plan : Plan) × IsMade words plan × (text ≡ text_of plan)
 FindsIn left before after chosen (verdict.Played run) =
     (words : PlayWords) × (chosen ≡ command.Play words) × (is_lawful words.set words.reclaimer ≡ true)
-    × (plan : Plan) × GaveWorkload left before after plan × IsRun words.set words.reclaimer plan run
+    × (plan : Plan) × GaveWorkload left before after plan × IsRun words plan run
 FindsIn left before after chosen (verdict.Tried run) =
     (words : TrialWords) × (chosen ≡ command.Trial words) × (is_lawful words.set words.reclaimer ≡ true) × (after ≡ before)
-    × (plan : Plan) × IsMade words.workload plan × IsRun words.set words.reclaimer plan run
+    × (plan : Plan) × IsMade words.workload plan × IsRun (played_as words) plan run
 
 -- what a verdict says at a command that reads nothing
 abbrev pub FindsMade : Command → Verdict → Type 0
@@ -145,7 +157,7 @@ FindsMade chosen verdict.OutOfMemory = IsAllowed chosen
 FindsMade chosen (verdict.Generated text) = (words : Workloads) × (chosen ≡ command.Generate words) × (plan : Plan) × IsMade words plan × (text ≡ text_of plan)
 FindsMade chosen (verdict.Tried run) =
     (words : TrialWords) × (chosen ≡ command.Trial words) × (is_lawful words.set words.reclaimer ≡ true)
-    × (plan : Plan) × IsMade words.workload plan × IsRun words.set words.reclaimer plan run
+    × (plan : Plan) × IsMade words.workload plan × IsRun (played_as words) plan run
 FindsMade chosen found = ⊥
 
 -- the words name no command

@@ -4,3 +4,4 @@ pub mod Plays
 pub mod Reading
 pub mod Settings
 pub mod Sizes
+pub mod Tables

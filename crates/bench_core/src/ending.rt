@@ -7,6 +7,7 @@ ghost use Rattle.report_text.specs.Printed.{OnDone, OnWriteFault};
 use lawful_pairs::Unlawful;
 use listed::Listed;
 use outside::Sink;
+use record_table::Closed;
 use report_text::{
     Checked, Played, Printed, Refusal, Report, WorkloadRefusal, print_checked, print_refusal,
     print_report, print_summary, print_text,
@@ -37,6 +38,8 @@ pub const TOO_LONG: u8 = 9;
 pub struct Run {
     /// What it has to tell.
     pub report: Report,
+    /// The table that was played on, closed by all callers. A plain set has none.
+    pub closed: Option<Closed>,
 }
 
 /// How a run of the program ended.

@@ -6,18 +6,22 @@ ghost use Rattle.command_words.specs.declared.command.Command.TheVariants as com
 ghost use Rattle.workload_text.specs.Limits.{Plan};
 ghost use Rattle.workload_text.specs.Text.{text_of};
 ghost use Rattle.bench_core.specs.Ending.{Counts, Finds, FindsIn, FindsMade, FindsRead, GaveWorkload, IsMade, IsRun};
+ghost use Rattle.bench_core.specs.Settings.{ArePlayable, played_as};
 ghost use Rattle.bench_core.specs.Sizes.{AreSizes, IsPlanOf, reason_of, sizes_of};
 
 use crate::ending::{Run, Verdict};
 use crate::playing::play_plain;
 use crate::reading::{ReadError, read_all};
+use crate::tables::play_hash;
 use command_words::{Command, PlayWords, TrialWords, Workloads, read_command};
 use lawful_pairs::lawful;
 use listed::Listed;
 use outside::{Gate, Source};
 use report_text::{Checked, WorkloadRefusal};
-use set_model::{OutOfMemory, ReclaimerName, SetName};
+use set_model::{AllocatorName, OutOfMemory, ReclaimerName, SetName};
 use std::alloc::Global;
+use std::sync::Wait;
+use std::thread::Threads;
 use workload_gen::{GenPlan, generate};
 use workload_text::{Workload, WorkloadError, read_workload, write_workload};
 
@@ -88,20 +92,27 @@ fn plan_of(chosen: Workloads) -> GenPlan
 }
 
 /// Plays a workload on the set of a pair that is built.
-fn play<G: Gate>(
+fn play<R: Threads + Wait + Sync, G: Gate + Sync>(
     alloc: Global,
+    rt: &R,
     gate: &G,
-    set: SetName,
-    reclaimer: ReclaimerName,
+    chosen: PlayWords,
     workload: Workload,
 ) -> Result<Run, OutOfMemory>
-    requires { is_built set reclaimer ≡ true }
-    ensures { IfOk result (IsRun set reclaimer workload) }
+    requires built { is_built chosen.set chosen.reclaimer ≡ true }
+    requires playable { ArePlayable chosen }
+    ensures { IfOk result (IsRun chosen workload) }
 {
-    match (set, reclaimer) {
+    match (chosen.set, chosen.reclaimer) {
         (SetName::Plain, ReclaimerName::Nothing) => {
             let report = play_plain(alloc, gate, workload)?;
-            Ok(Run { report })
+            Ok(Run {
+                report,
+                closed: None,
+            })
+        }
+        (SetName::Michael, ReclaimerName::Nothing) => {
+            play_hash(alloc, rt, gate, chosen, workload)
         }
         _ => unreachable!(),
     }
@@ -119,13 +130,14 @@ pub fn find_checked<S: Source>(alloc: Global, source: &mut S) -> Verdict
 }
 
 /// Reads a workload, and plays it.
-pub fn find_played<S: Source, G: Gate>(
+pub fn find_played<R: Threads + Wait + Sync, S: Source, G: Gate + Sync>(
     alloc: Global,
+    rt: &R,
     gate: &G,
     chosen: PlayWords,
     source: &mut S,
 ) -> Verdict
-    requires { IsKnownPair chosen.set chosen.reclaimer }
+    requires { ArePlayable chosen }
     ensures finds { FindsIn S.left source.old source.new (command.Play chosen) result }
     ensures counts { Counts S.faults source.old source.new result }
 {
@@ -136,7 +148,7 @@ pub fn find_played<S: Source, G: Gate>(
         Ok(workload) => workload,
         Err(verdict) => return verdict,
     };
-    match play(alloc, gate, chosen.set, chosen.reclaimer, workload) {
+    match play(alloc, rt, gate, chosen, workload) {
         Ok(run) => Verdict::Played(run),
         Err(OutOfMemory) => Verdict::OutOfMemory,
     }
@@ -170,18 +182,41 @@ pub fn find_generated(alloc: Global, chosen: Workloads) -> Verdict
     }
 }
 
+/// What a trial plays on.
+fn played_as(chosen: TrialWords) -> PlayWords
+    ensures { result ≡ played_as chosen }
+{
+    PlayWords {
+        set: chosen.set,
+        reclaimer: chosen.reclaimer,
+        allocator: AllocatorName::Bump,
+        buckets: 64,
+        records: None,
+    }
+}
+
 /// Makes a workload and plays it.
-fn run_of_made<G: Gate>(alloc: Global, gate: &G, chosen: TrialWords) -> Result<Run, OutOfMemory>
+fn run_of_made<R: Threads + Wait + Sync, G: Gate + Sync>(
+    alloc: Global,
+    rt: &R,
+    gate: &G,
+    chosen: TrialWords,
+) -> Result<Run, OutOfMemory>
     requires built { is_built chosen.set chosen.reclaimer ≡ true }
     requires sizes { AreSizes chosen.workload }
-    ensures { IfOk result (λ run. (plan : Plan) × IsMade chosen.workload plan × IsRun chosen.set chosen.reclaimer plan run) }
+    ensures { IfOk result (λ run. (plan : Plan) × IsMade chosen.workload plan × IsRun (played_as chosen) plan run) }
 {
     let workload = made(alloc, chosen.workload)?;
-    play(alloc, gate, chosen.set, chosen.reclaimer, workload)
+    play(alloc, rt, gate, played_as(chosen), workload)
 }
 
 /// Makes a workload, and plays it.
-pub fn find_tried<G: Gate>(alloc: Global, gate: &G, chosen: TrialWords) -> Verdict
+pub fn find_tried<R: Threads + Wait + Sync, G: Gate + Sync>(
+    alloc: Global,
+    rt: &R,
+    gate: &G,
+    chosen: TrialWords,
+) -> Verdict
     requires known { IsKnownPair chosen.set chosen.reclaimer }
     requires sizes { AreSizes chosen.workload }
     ensures { FindsMade (command.Trial chosen) result }
@@ -189,15 +224,16 @@ pub fn find_tried<G: Gate>(alloc: Global, gate: &G, chosen: TrialWords) -> Verdi
     if let Err(pair) = lawful(chosen.set, chosen.reclaimer) {
         return Verdict::Unlawful(pair);
     }
-    match run_of_made(alloc, gate, chosen) {
+    match run_of_made(alloc, rt, gate, chosen) {
         Ok(run) => Verdict::Tried(run),
         Err(OutOfMemory) => Verdict::OutOfMemory,
     }
 }
 
 /// Tests the words, and does what they say, up to printing.
-pub fn judge<S: Source, G: Gate>(
+pub fn judge<R: Threads + Wait + Sync, S: Source, G: Gate + Sync>(
     alloc: Global,
+    rt: &R,
     gate: &G,
     words: &[String],
     source: &mut S,
@@ -207,9 +243,9 @@ pub fn judge<S: Source, G: Gate>(
 {
     match read_command(words) {
         None => Verdict::WordsRefused,
-        Some(Command::Play(chosen)) => find_played(alloc, gate, chosen, source),
+        Some(Command::Play(chosen)) => find_played(alloc, rt, gate, chosen, source),
         Some(Command::Check) => find_checked(alloc, source),
         Some(Command::Generate(chosen)) => find_generated(alloc, chosen),
-        Some(Command::Trial(chosen)) => find_tried(alloc, gate, chosen),
+        Some(Command::Trial(chosen)) => find_tried(alloc, rt, gate, chosen),
     }
 }

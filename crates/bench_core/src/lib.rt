@@ -8,6 +8,7 @@ mod playing;
 mod reading;
 mod runs;
 mod settings;
+mod tables;
 mod top;
 
 pub use ending::{Ended, OUT_OF_MEMORY, Run};

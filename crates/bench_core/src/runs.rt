@@ -72,7 +72,7 @@ pub fn generate_run<K: Sink>(alloc: Global, plan: &GenPlan, sink: &mut K) -> u8
 /// the top call has for a lawful pair.
 #[tactic(auto, using(crate::proofs::Clauses::in_text))]
 pub fn play_run<T: Threads + Wait + Sync, S: Source, K: Sink, G: Gate + Sync>(
-    _rt: &T,
+    rt: &T,
     alloc: Global,
     settings: Settings,
     source: &mut S,
@@ -82,7 +82,7 @@ pub fn play_run<T: Threads + Wait + Sync, S: Source, K: Sink, G: Gate + Sync>(
     requires { AreSettings settings }
     ensures { EndsRead S.left S.faults K.got K.faults (command.Play (play_words settings)) source.old source.new sink.old sink.new result }
 {
-    let found = find_played(alloc, gate, play_words(settings), source);
+    let found = find_played(alloc, rt, gate, play_words(settings), source);
     conclude(found, sink)
 }
 
@@ -90,7 +90,7 @@ pub fn play_run<T: Threads + Wait + Sync, S: Source, K: Sink, G: Gate + Sync>(
 /// status is 0, 5, 7 or 8.
 #[tactic(auto, using(crate::proofs::Clauses::made_text))]
 pub fn trial_run<T: Threads + Wait + Sync, K: Sink, G: Gate + Sync>(
-    _rt: &T,
+    rt: &T,
     alloc: Global,
     pair: Pair,
     plan: &GenPlan,
@@ -104,6 +104,7 @@ pub fn trial_run<T: Threads + Wait + Sync, K: Sink, G: Gate + Sync>(
     let workload = made_words(plan);
     let found = find_tried(
         alloc,
+        rt,
         gate,
         TrialWords {
             set: pair.set,

@@ -33,7 +33,7 @@ use std::thread::Threads;
 /// `words` are those of the command without the program's name. The clauses on what was read speak
 /// of a source that tells its bytes, and those on what was written of a sink that does.
 pub fn setbench<T: Threads + Wait + Sync, S: Source, K: Sink, G: Gate + Sync>(
-    _rt: &T,
+    rt: &T,
     alloc: Global,
     words: &[String],
     source: &mut S,
@@ -109,13 +109,14 @@ pub fn setbench<T: Threads + Wait + Sync, S: Source, K: Sink, G: Gate + Sync>(
         × Finds S.left (texts_of words.now) source.old source.new found
         × (result.run ≡ run_of found) × (output_of found ≢ []) × WrotePart K.got sink.old sink.new (output_of found) }
 {
-    end_of(alloc, words, source, sink, gate)
+    end_of(alloc, rt, words, source, sink, gate)
 }
 
 /// The run, with all of its facts in one.
 #[tactic(auto, using(crate::proofs::Clauses::finds_text))]
-fn end_of<S: Source, K: Sink, G: Gate>(
+fn end_of<T: Threads + Wait + Sync, S: Source, K: Sink, G: Gate + Sync>(
     alloc: Global,
+    rt: &T,
     words: &[String],
     source: &mut S,
     sink: &mut K,
@@ -123,6 +124,6 @@ fn end_of<S: Source, K: Sink, G: Gate>(
 ) -> Ended
     ensures { Ends S.left S.faults K.got K.faults (texts_of words.now) source.old source.new sink.old sink.new result }
 {
-    let verdict = judge(alloc, gate, words, source);
+    let verdict = judge(alloc, rt, gate, words, source);
     conclude(verdict, sink)
 }

@@ -1,0 +1,43 @@
+-- Runs on a table of records: how many records it has, and what such a run reports.
+use Rattle.std.specs.Prelude.{ℕ, ◌+◌, List, sum_by, min, Option, Some, None}
+use Rattle.set_model.specs.declared.calls.Call.{Call}
+use Rattle.set_model.specs.declared.names.SetName.{SetName}
+use Rattle.set_model.specs.declared.names.SetName.TheVariants.{Plain, Michael, Lazy}
+use Rattle.set_model.specs.Machine.{insertions_in}
+use Rattle.command_words.specs.declared.command.PlayWords.{PlayWords}
+use Rattle.paired_replies.specs.Pairs.{replies_to}
+use Rattle.record_table.specs.declared.closing.Closed.{Closed}
+use Rattle.report_text.specs.declared.report.Report.{Report}
+use Rattle.hash_runs.specs.HashRuns.{IsNoneRun}
+use Rattle.workload_text.specs.Limits.{joined}
+use Rattle.table_reports.specs.Reports.{TellsKeys}
+
+-- how many calls insert, of all callers together
+abbrev pub all_insertions : List (List (List Call)) → ℕ
+all_insertions lists = sum_by insertions_in (joined lists)
+
+-- how many records are roots: a hash table's buckets, or the head of a list
+abbrev pub roots_in : SetName → ℕ → ℕ
+roots_in Plain buckets = 0
+roots_in Michael buckets = buckets
+roots_in Lazy buckets = 1
+
+-- how many records a workload may use on a set with so many roots; a plain set has none
+abbrev pub needed : SetName → ℕ → List (List (List Call)) → ℕ
+needed Plain roots lists = 0
+needed Michael roots lists = roots + all_insertions lists
+needed Lazy roots lists = roots + all_insertions lists
+
+-- how many records the table has: as many as the words choose, or as are needed, up to the most there may be
+abbrev pub records_chosen : Option ℕ → ℕ → ℕ
+records_chosen (Some records) need = records
+records_chosen None need = min need 1048575
+
+abbrev pub records_for : PlayWords → List (List (List Call)) → ℕ
+records_for chosen lists = records_chosen chosen.records (needed chosen.set (roots_in chosen.set chosen.buckets) lists)
+
+-- The callers played these lists on a hash table without reclamation, which is closed. Their replies and the counts are
+-- those of that run, and the number of keys and their sum are those of the closed table.
+pub record IsHashRun (chosen : PlayWords) (lists : List (List (List Call))) (report : Report) (closed : Closed) : Type 0 where
+  pub played : IsNoneRun (records_for chosen lists) chosen.buckets lists (replies_to report.callers) report.counts closed
+  pub keys : TellsKeys closed report
