@@ -1,6 +1,6 @@
 -- How far the pairing of calls and replies has come.
-use Rattle.std.proofs.Common.{◌≡◌, ℕ, ◌<◌, List, [], ◌∷◌, ◌++◌, length, map, sym, ap, ◌∙◌, arith, append_assoc, append-nil, length-append}
-use Rattle.std.proofs.lemmas.List.{length-map, map-append}
+use Rattle.std.proofs.Common.{◌≡◌, ◌+◌, List, [], ◌∷◌, ◌++◌, length, map, sym, ap, ◌∙◌, arith, append-nil, length-append}
+use Rattle.std.proofs.lemmas.List.{length-map}
 use Rattle.set_model.specs.declared.calls.Call.{Call}
 use Rattle.set_model.specs.declared.calls.Reply.{Reply}
 use Rattle.report_text.specs.declared.report.Played.{Played}
@@ -12,26 +12,16 @@ pub record PairsTo (lists : List (List Call)) (replies : List (List Reply)) (cal
   pub replied : replies_to callers ++ told ≡ replies
   pub pairs : map length told ≡ map length calls
 
--- where calls are left, there is a caller without them
-pub PairsTo-left : {lists : List (List Call)} {replies : List (List Reply)} {callers : List Played} {own : List Call} {calls : List (List Call)} {told : List (List Reply)}
-    → PairsTo lists replies callers (own ∷ calls) told → length callers < length lists
-PairsTo-left {callers = callers} {own = own} {calls = calls} p =
-    omega (arith, ap length p.called, length-append (calls_of callers) (own ∷ calls), length-map callers (λ (played : Played). played.calls))
+-- each list is a caller's that has its calls, or is left
+pub PairsTo-count : {lists : List (List Call)} {replies : List (List Reply)} {callers : List Played} {calls : List (List Call)} {told : List (List Reply)}
+    → PairsTo lists replies callers calls told → length callers + length calls ≡ length lists
+PairsTo-count {callers = callers} {calls = calls} p =
+    omega (arith, ap length p.called, length-append (calls_of callers) calls, length-map callers (λ (played : Played). played.calls))
 
--- one more caller has its calls and replies
-pub PairsTo-turn : {lists : List (List Call)} {replies : List (List Reply)} {callers : List Played} {own : List Call} {calls : List (List Call)} {its : List Reply} {told : List (List Reply)} (played : Played)
-    → PairsTo lists replies callers (own ∷ calls) (its ∷ told) → played.calls ≡ own → played.replies ≡ its → PairsTo lists replies (callers ++ played ∷ []) calls told
-PairsTo-turn {callers = callers} {own = own} {calls = calls} {its = its} {told = told} played p same_calls same_replies = record {
-  called = ap (λ lists. lists ++ calls) (map-append (λ (one : Played). one.calls) callers (played ∷ []))
-      ∙ append_assoc (calls_of callers) (played.calls ∷ []) calls
-      ∙ ap (λ list. calls_of callers ++ list ∷ calls) same_calls
-      ∙ p.called;
-  replied = ap (λ lists. lists ++ told) (map-append (λ (one : Played). one.replies) callers (played ∷ []))
-      ∙ append_assoc (replies_to callers) (played.replies ∷ []) told
-      ∙ ap (λ list. replies_to callers ++ list ∷ told) same_replies
-      ∙ p.replied;
-  pairs = cc (p.pairs);
-}
+-- as many replies are left as calls
+pub PairsTo-same : {lists : List (List Call)} {replies : List (List Reply)} {callers : List Played} {calls : List (List Call)} {told : List (List Reply)}
+    → PairsTo lists replies callers calls told → length told ≡ length calls
+PairsTo-same {calls = calls} {told = told} p = sym (length-map told (λ (own : List Reply). length own)) ∙ ap length p.pairs ∙ length-map calls (λ (own : List Call). length own)
 
 -- where no calls are left, all have theirs
 pub PairsTo-end : {lists : List (List Call)} {replies : List (List Reply)} {callers : List Played} {calls : List (List Call)} {told : List (List Reply)}
