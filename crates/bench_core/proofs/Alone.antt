@@ -15,17 +15,20 @@ use Rattle.std.specs.Option.{option_map}
 use Rattle.std.proofs.lemmas.Option.{slice_get-map}
 use Rattle.workload_text.proofs.Held.{none_is, some_is}
 use Rattle.workload_text.specs.Limits.{Plan, joined, plan_of}
-use Rattle.command_words.specs.declared.command.Command.TheVariants as command
+use Rattle.command_words.specs.declared.command.PlayWords.{PlayWords}
 use Rattle.command_words.specs.declared.command.TrialWords.{TrialWords}
 use Rattle.set_model.specs.declared.names.ReclaimerName.{ReclaimerName}
+use Rattle.set_model.specs.declared.names.ReclaimerName.TheVariants.{Nothing, Debra, Hazard, Ibr}
 use Rattle.set_model.specs.declared.names.SetName.{SetName}
 use Rattle.set_model.specs.declared.names.SetName.TheVariants.{Plain, Michael, Lazy}
+use Rattle.paired_replies.specs.Pairs.{calls_of}
+use Rattle.record_table.specs.declared.closing.Closed.{Closed}
 use Rattle.report_text.specs.declared.report.Played.{Played}
 use Rattle.report_text.specs.declared.report.Report.{Report}
 use Rattle.bench_core.specs.declared.ending.Run.{Run}
-use Rattle.bench_core.specs.declared.ending.Verdict.{Verdict}
-use Rattle.bench_core.specs.declared.ending.Verdict.TheVariants as verdict
-use Rattle.bench_core.specs.Ending.{FindsIn, IsRun, run_of}
+use Rattle.bench_core.specs.Ending.{IsMade, IsPlayed, IsRun, has_full}
+use Rattle.bench_core.specs.Settings.{played_as}
+use Rattle.bench_core.specs.Tables.{IsHashRun}
 use Rattle.bench_core.specs.Plays.{AreAlone, IsPlainRun, pieces_in, order_of, told_to}
 
 -- the keys of all these calls are such
@@ -123,6 +126,11 @@ plain_alone sizes unshared plan is report played = λ caller one there.
     ∙ slice_get-map (λ (p : Played). p.calls) report.callers caller ∙ ap (option_map (λ (p : Played). p.calls)) there in
     let own = called_at sizes 0 sizes.callers caller caller one.calls (omega arith) calls in
     played.replies caller one there ∙ ap (λ (p : Plan). told_to caller (order_of p.lists) empty) is ∙ told_alone sizes unshared caller own.1 ∙ ap (λ calls. replies_of calls empty) (sym own.0)
+
+-- a trial on a hash table
+hash_alone : (sizes : GenPlan) → sizes.shared ≡ false → (plan : Plan) → plan ≡ plan_of (generated sizes) → (report : Report) (closed : Closed) (chosen : PlayWords)
+    → IsHashRun chosen plan.lists report closed → calls_of report.callers ≡ joined plan.lists → has_full report.callers ≡ false → AreAlone report.callers
+hash_alone sizes unshared plan is report closed chosen run calls no_full = ?
 
 -- a trial on a set that is played
 played_alone : (set : SetName) (reclaimer : ReclaimerName) (chosen : PlayWords) (sizes : GenPlan) → sizes.shared ≡ false → (plan : Plan) → plan ≡ plan_of (generated sizes) → (run : Run)

@@ -9,7 +9,9 @@ use Rattle.paired_replies.specs.Pairs.{replies_to}
 use Rattle.record_table.specs.declared.closing.Closed.{Closed}
 use Rattle.report_text.specs.declared.report.Report.{Report}
 use Rattle.hash_runs.specs.HashRuns.{IsNoneRun}
+use Rattle.list_facts.specs.Michael.{michael}
 use Rattle.workload_text.specs.Limits.{joined}
+use Rattle.table_reports.specs.History.{IsOneHistory}
 use Rattle.table_reports.specs.Reports.{TellsKeys}
 
 -- how many calls insert, of all callers together
@@ -36,8 +38,9 @@ records_chosen None need = min need 1048575
 abbrev pub records_for : PlayWords → List (List (List Call)) → ℕ
 records_for chosen lists = records_chosen chosen.records (needed chosen.set (roots_in chosen.set chosen.buckets) lists)
 
--- The callers played these lists on a hash table without reclamation, which is closed. Their replies and the counts are
--- those of that run, and the number of keys and their sum are those of the closed table.
+-- The callers played these lists on a hash table without reclamation, which they closed. The counts are those of that
+-- run, the replies are those of the closed table's one history, and so are the number of keys and their sum.
 pub record IsHashRun (chosen : PlayWords) (lists : List (List (List Call))) (report : Report) (closed : Closed) : Type 0 where
   pub played : IsNoneRun (records_for chosen lists) chosen.buckets lists (replies_to report.callers) report.counts closed
+  pub history : IsOneHistory michael lists report.callers closed
   pub keys : TellsKeys closed report

@@ -34,7 +34,7 @@ pub const OUT_OF_MEMORY: u8 = 8;
 pub const TOO_LONG: u8 = 9;
 
 /// A run of a workload.
-#[derive(Debug, Drop)]
+#[derive(Drop)]
 pub struct Run {
     /// What it has to tell.
     pub report: Report,
@@ -43,7 +43,7 @@ pub struct Run {
 }
 
 /// How a run of the program ended.
-#[derive(Debug, Drop)]
+#[derive(Drop)]
 pub struct Ended {
     /// The status, 0 to 9.
     pub status: u8,
@@ -52,7 +52,7 @@ pub struct Ended {
 }
 
 /// What the words and the source came to, before anything is printed.
-#[derive(Debug, Drop)]
+#[derive(Drop)]
 pub enum Verdict {
     /// The words are no command. Nothing was read.
     WordsRefused,

@@ -45,7 +45,7 @@ fn insertions_in(calls: &[Call]) -> usize
 }
 
 /// How many calls of the workload insert, all together.
-fn insertions_of(workload: &Workload) -> usize
+pub fn insertions_of(workload: &Workload) -> usize
     ensures { result ≡ insertions_in (called (order_of workload.now.lists)) }
 {
     let mut total = 0;

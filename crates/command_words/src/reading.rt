@@ -116,7 +116,7 @@ fn is_known_pair(set: SetName, reclaimer: ReclaimerName) -> bool
     ensures { IsTrue result ↔ IsKnownPair set reclaimer }
 {
     match (set, reclaimer) {
-        (SetName::Plain, ReclaimerName::Nothing) => true,
+        (SetName::Plain | SetName::Michael, ReclaimerName::Nothing) => true,
         _ => lawful(set, reclaimer).is_err(),
     }
 }

@@ -1,5 +1,4 @@
 -- From a run on a table to the one history of which its report tells.
-use mathlib.Core.Option.{some-injective}
 use Rattle.std.proofs.Common.{◌≡◌, ℕ, ◌<◌, List, [], ◌++◌, map, length, Some, slice_get, get_or, refl, sym, ap, ◌∙◌, subst, arith}
 use Rattle.std.proofs.lemmas.List.{append-nil, length-map}
 use Rattle.std.proofs.lemmas.Option.{slice_get-get_or, slice_get-map, slice_get_within}
@@ -23,6 +22,7 @@ use Rattle.set_model.specs.declared.calls.Counts.{Counts}
 use Rattle.set_model.specs.declared.calls.Reply.{Reply}
 use Rattle.set_runs.specs.Playing.{phases_of}
 use Rattle.set_runs.specs.Runs.{IsSetRun}
+use Rattle.workload_text.proofs.Held.{some_is}
 use Rattle.workload_text.specs.Limits.{calls_of_all, joined}
 use Rattle.table_reports.specs.History.{IsOneHistory, IsPrintedOf}
 
@@ -39,7 +39,7 @@ own_calls : (lists : List (List (List Call))) (callers : List Played) → calls_
 own_calls lists callers same c p at =
     let there : slice_get (joined lists) c ≡ Some p.calls = ap (λ l. slice_get l c) (sym same) ∙ slice_get-map (λ (q : Played). q.calls) callers c ∙ ap (option_map (λ (q : Played). q.calls)) at in
     let within : c < length lists = omega (arith, slice_get_within callers c p at, ap length same, length-map callers (λ (q : Played). q.calls), length-map lists calls_of_all) in
-    some-injective (calls_of_all (phases_of lists c)) p.calls
+    some_is (calls_of_all (phases_of lists c)) p.calls
     (sym (slice_get-map calls_of_all lists c ∙ ap (option_map calls_of_all) (slice_get-get_or lists c [] within)) ∙ there)
 
 pub one_history : (s : ShapeFacts) (r : CoverFacts) (steps : Setup → Call → ℕ → Answer → Book → Book → Type 0) (budget : ℕ) (setup : Setup) (lists : List (List (List Call))) (callers : List Played) (counts : Counts) (closed : Closed)
