@@ -1,3 +1,4 @@
 pub mod Answers
 pub mod Alone
 pub mod Phased
+pub mod Fullness

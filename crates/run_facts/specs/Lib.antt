@@ -1,2 +1,3 @@
 pub mod Replies
 pub mod Phased
+pub mod Fullness
