@@ -2,3 +2,5 @@ pub mod Answers
 pub mod Alone
 pub mod Phased
 pub mod Fullness
+pub mod AloneRuns
+pub mod GeneratedRuns
