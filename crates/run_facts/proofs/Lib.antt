@@ -1,3 +1,6 @@
 pub mod Answers
 pub mod Alone
 pub mod Phased
+pub mod Fullness
+pub mod AloneRuns
+pub mod GeneratedRuns

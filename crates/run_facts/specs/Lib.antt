@@ -1,2 +1,4 @@
 pub mod Replies
 pub mod Phased
+pub mod Fullness
+pub mod Unshared

@@ -1,10 +1,15 @@
 -- The replies of a caller beside its answered calls.
-use Rattle.std.specs.Prelude.{◌≡◌, List, [], ◌∷◌}
+use Rattle.std.specs.Prelude.{◌≡◌, ℕ, List, [], ◌∷◌, Some, slice_get}
 use Rattle.set_model.specs.declared.calls.Call.{Call}
 use Rattle.set_model.specs.declared.calls.Reply.{Reply}
 use Rattle.record_memory.specs.declared.books.Book.{Book}
+use Rattle.record_memory.specs.declared.books.Guard.{Guard}
+use Rattle.record_memory.specs.declared.books.Setup.{Setup}
 use Rattle.workload_text.specs.Limits.{calls_of_all}
+use Rattle.set_api.specs.declared.answer.Answer.{Answer}
 use Rattle.key_sums.specs.Balances.{answered_among, answers_in}
+use Rattle.set_runs.specs.Playing.{phases_of}
+use Rattle.set_runs.specs.Runs.{IsCallersPlay}
 
 -- each call with its reply
 abbrev pub with_replies : List Call → List Reply → List (Call × Reply)
@@ -16,3 +21,8 @@ with_replies (call ∷ calls) (reply ∷ replies) = (call, reply) ∷ with_repli
 -- were told that no record is left
 abbrev pub AreBooksReplies : List (List Call) → List Reply → Book → Type 0
 AreBooksReplies phases replies book = answers_in book.answered ≡ answered_among (with_replies (calls_of_all phases) replies)
+
+-- Each caller played its calls of these workload lists, with its replies, to its book: all by number
+abbrev pub ArePlays : (Call → ℕ → Answer → Book → Book → Type 0) → ℕ → Setup → Guard → List (List (List Call)) → List (List Reply) → List ℕ → List Book → Type 0
+ArePlays steps budget setup first lists replies bounds books = (i : ℕ) (own : List Reply) (book : Book) → slice_get replies i ≡ Some own → slice_get books i ≡ Some book
+    → IsCallersPlay steps budget setup first i (phases_of lists i) own bounds book
