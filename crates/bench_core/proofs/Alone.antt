@@ -1,9 +1,13 @@
 -- Where callers share no key, each is told what it would be told alone.
-use Rattle.std.proofs.Common.{◌≡◌, ◌≢◌, ℕ, zero, suc, ◌+◌, ◌%◌, ◌<◌, ◌≤◌, inl, inr, Option, false, not, ◌||◌, ◌&&◌, eqb, Some, List, [], ◌∷◌, ◌++◌, map, slice_get, slice_index_or, refl, sym, ap, ◌∙◌, subst, ne_eqb, append-nil, add-one, arith}
+use Rattle.std.proofs.Common.{◌≡◌, ◌≢◌, ℕ, zero, suc, ◌+◌, ◌%◌, ◌<◌, ◌≤◌, inl, inr, Option, Bool, true, false, not, length, ◌||◌, ◌&&◌, eqb, Some, List, [], ◌∷◌, ◌++◌, map, slice_get, slice_index_or, refl, sym, ap, ◌∙◌, subst, ne_eqb, append-nil, add-one, arith}
+use Rattle.std.proofs.lemmas.Bool.{true≢false}
 use Rattle.std.proofs.lemmas.Bool.Decides.{eqb_tells}
+use Rattle.std.proofs.lemmas.List.Elements.{All-from_recursion}
 use Rattle.std.specs.List.{AllByRecursion}
 use Rattle.set_model.specs.declared.calls.Call.{Call}
 use Rattle.set_model.specs.declared.calls.Call.TheVariants.{Insert, Remove, Search}
+use Rattle.set_model.specs.declared.calls.Reply.{Reply}
+use Rattle.set_model.specs.declared.calls.Reply.TheVariants.{Yes, No, Full}
 use Rattle.set_model.specs.Keys.{Keys, contains, empty}
 use Rattle.set_model.specs.Machine.{key_of, keys_after, keys_after_all, reply_of, reply_of_answer, replies_of}
 use Rattle.set_model.proofs.KeySets.{contains-insert, contains-remove}
@@ -21,12 +25,17 @@ use Rattle.set_model.specs.declared.names.ReclaimerName.{ReclaimerName}
 use Rattle.set_model.specs.declared.names.ReclaimerName.TheVariants.{Nothing, Debra, Hazard, Ibr}
 use Rattle.set_model.specs.declared.names.SetName.{SetName}
 use Rattle.set_model.specs.declared.names.SetName.TheVariants.{Plain, Michael, Lazy}
-use Rattle.paired_replies.specs.Pairs.{calls_of}
+use Rattle.cover_facts.specs.Keeping.{none}
+use Rattle.list_facts.specs.Michael.{michael}
+use Rattle.paired_replies.specs.Pairs.{calls_of, replies_to}
+use Rattle.record_table.specs.Closing.{closed_books}
 use Rattle.record_table.specs.declared.closing.Closed.{Closed}
 use Rattle.report_text.specs.declared.report.Played.{Played}
 use Rattle.report_text.specs.declared.report.Report.{Report}
 use Rattle.bench_core.specs.declared.ending.Run.{Run}
-use Rattle.bench_core.specs.Ending.{IsMade, IsPlayed, IsRun, has_full}
+use Rattle.run_facts.proofs.GeneratedRuns.{calls_joined, generated_alone}
+use Rattle.run_facts.specs.Unshared.{NoneIsFull}
+use Rattle.bench_core.specs.Ending.{IsMade, IsPlayed, IsRun, any_full, has_full}
 use Rattle.bench_core.specs.Settings.{played_as}
 use Rattle.bench_core.specs.Tables.{IsHashRun}
 use Rattle.bench_core.specs.Plays.{AreAlone, IsPlainRun, pieces_in, order_of, told_to}
@@ -127,10 +136,38 @@ plain_alone sizes unshared plan is report played = λ caller one there.
     let own = called_at sizes 0 sizes.callers caller caller one.calls (omega arith) calls in
     played.replies caller one there ∙ ap (λ (p : Plan). told_to caller (order_of p.lists) empty) is ∙ told_alone sizes unshared caller own.1 ∙ ap (λ calls. replies_of calls empty) (sym own.0)
 
+left_false : (a b : Bool) → (a || b) ≡ false → a ≡ false
+left_false true b is = is
+left_false false b is = refl
+
+right_false : (a b : Bool) → (a || b) ≡ false → b ≡ false
+right_false true b is = absurd (true≢false is)
+right_false false b is = is
+
+-- where no reply is full, none of a caller's is
+own_none : (replies : List Reply) → any_full replies ≡ false → NoneIsFull replies
+own_none replies no_full = All-from_recursion (λ reply. reply ≢ Full) replies (each replies no_full) where
+  each : (replies : List Reply) → any_full replies ≡ false → AllByRecursion (λ reply. reply ≢ Full) replies
+  each [] no_full = tt
+  each (Yes ∷ replies) no_full = ((λ same. cc), each replies no_full)
+  each (No ∷ replies) no_full = ((λ same. cc), each replies no_full)
+  each (Full ∷ replies) no_full = absurd (true≢false no_full)
+
+none_full : (callers : List Played) → has_full callers ≡ false → (caller : ℕ) (one : Played) → slice_get callers caller ≡ Some one → NoneIsFull one.replies
+none_full [] no_full caller one there = absurd (none_is one there)
+none_full (played ∷ callers) no_full zero one there = own_none one.replies (ap (λ (p : Played). any_full p.replies) (sym (some_is played one there)) ∙ left_false (any_full played.replies) (has_full callers) no_full)
+none_full (played ∷ callers) no_full (suc caller) one there = none_full callers (right_false (any_full played.replies) (has_full callers) no_full) caller one there
+
 -- a trial on a hash table
 hash_alone : (sizes : GenPlan) → sizes.shared ≡ false → (plan : Plan) → plan ≡ plan_of (generated sizes) → (report : Report) (closed : Closed) (chosen : PlayWords)
     → IsHashRun chosen plan.lists report closed → calls_of report.callers ≡ joined plan.lists → has_full report.callers ≡ false → AreAlone report.callers
-hash_alone sizes unshared plan is report closed chosen run calls no_full = ?
+hash_alone sizes unshared plan is report closed chosen run calls no_full = λ caller one there.
+    let own : slice_get (replies_to report.callers) caller ≡ Some one.replies = slice_get-map (λ (p : Played). p.replies) report.callers caller ∙ ap (option_map (λ (p : Played). p.replies)) there in
+    let called : slice_get (joined plan.lists) caller ≡ Some one.calls =
+        ap (λ all. slice_get all caller) (sym calls) ∙ slice_get-map (λ (p : Played). p.calls) report.callers caller ∙ ap (option_map (λ (p : Played). p.calls)) there in
+    let same : length (replies_to report.callers) ≡ length (closed_books closed) = run.played.all_replies ∙ sym run.played.all_books in
+    generated_alone sizes unshared plan is michael none closed run.played.fits (λ helped. helped) (replies_to report.callers) same run.played.each caller one.replies own
+    (none_full report.callers no_full caller one there) ∙ ap (λ calls. replies_of calls empty) (calls_joined plan.lists caller one.calls called)
 
 -- a trial on a set that is played
 played_alone : (set : SetName) (reclaimer : ReclaimerName) (chosen : PlayWords) (sizes : GenPlan) → sizes.shared ≡ false → (plan : Plan) → plan ≡ plan_of (generated sizes) → (run : Run)

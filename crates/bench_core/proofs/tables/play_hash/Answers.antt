@@ -1,0 +1,49 @@
+use Rattle.std.proofs.Common.{◌≡◌, ◌+◌, ◌*◌, ℕ, List, length, Some, refl, sym, ap, ◌∙◌, subst}
+use Rattle.cover_facts.specs.Keeping.{none}
+use Rattle.hash_runs.specs.HashRuns.{IsNoneRun, none_manner}
+use Rattle.list_facts.specs.Michael.{michael}
+use Rattle.michael_hash.specs.Pieces.{MakesPiece}
+use Rattle.paired_replies.specs.Pairs.{items_of, replies_to}
+use Rattle.record_table.specs.Made.{setup_with}
+use Rattle.set_model.specs.declared.names.AllocatorName.TheVariants.{Bump}
+use Rattle.set_model.specs.declared.names.ReclaimerName.{ReclaimerName}
+use Rattle.set_model.specs.declared.names.ReclaimerName.TheVariants.{Nothing}
+use Rattle.set_model.specs.declared.names.SetName.{SetName}
+use Rattle.set_model.specs.declared.names.SetName.TheVariants.{Michael}
+use Rattle.table_reports.proofs.OneHistory.{one_history}
+use Rattle.table_reports.proofs.Pairs.{all_paired}
+use Rattle.bench_core.specs.declared.ending.Run.{Run}
+use Rattle.bench_core.specs.Ending.{IsPlayed}
+use Rattle.bench_core.specs.Tables.{IsHashRun, records_for}
+use Rattle.bench_core.proofs.tables.play_hash.Goals as goal
+
+pub report_table-report-requires-clause-pairs : goal.report_table-report-requires-clause-pairs
+report_table-report-requires-clause-pairs g c =
+    let lists = c.args.workload.lists in
+    let records = c.records_for-records.result in
+    let played = c.in_ok-played.played in
+    all_paired michael none (MakesPiece none_manner) (2 * records + 64) (setup_with records c.args.chosen.buckets (length lists) 1 Michael Nothing Bump) lists (items_of played.replies.items) played.counts played.closed c.in_ok-played.ensures
+
+pub returns : goal.returns
+returns g c =
+    let lists = c.args.workload.lists in
+    let chosen = c.args.chosen in
+    let told = c.report_table-report.ensures in
+    let report = c.report_table-report.result.report in
+    let closed = c.report_table-report.result.closed in
+    let records = records_for chosen lists in
+    let run : IsNoneRun records chosen.buckets lists (replies_to report.callers) report.counts closed =
+        rw (sym c.records_for-records.ensures, told.replies, told.counts, told.closed) c.in_ok-played.ensures in
+    let run_is : Run = record { report = report; closed = Some closed } in
+    let hash : IsHashRun chosen lists report closed = record {
+      played = run;
+      history = one_history michael none (MakesPiece none_manner) (2 * records + 64) (setup_with records chosen.buckets (length lists) 1 Michael Nothing Bump) lists report.callers report.counts closed run told.calls (run.fits.whole.unhelped (λ helped. helped));
+      keys = told.keys;
+    } in
+    record {
+      set_is = told.set ∙ sym c.requires.set;
+      reclaimer_is = told.reclaimer ∙ sym c.requires.reclaimer;
+      calls = told.calls;
+      played = subst (λ (s : SetName). IsPlayed s chosen.reclaimer chosen c.args.workload run_is) (sym c.requires.set)
+          (subst (λ (r : ReclaimerName). IsPlayed Michael r chosen c.args.workload run_is) (sym c.requires.reclaimer) (closed, refl, hash));
+    }
