@@ -1,11 +1,12 @@
 // Playing a workload on a plain set, phase by phase, and in each phase one caller after another.
-ghost use Rattle.std.specs.Prelude.{◌≡◌, ◌+◌, ◌≤◌, [], ◌++◌, length, vec_capacity, IfOk};
+ghost use Rattle.std.specs.Prelude.{◌≡◌, ◌+◌, ◌≤◌, [], ◌++◌, length, sum_by, vec_capacity, IfOk};
 ghost use Rattle.set_model.specs.Keys.{empty, size_of};
 ghost use Rattle.set_model.specs.Machine.{insertions_in, keys_after_all, replies_of};
+ghost use Rattle.workload_text.specs.Limits.{joined};
 ghost use Rattle.bench_core.specs.Plays.{order_of, called, keys_left, AreReady, AreTold, IsPlainRun};
 
-use listed::Listed;
 use outside::Gate;
+use paired_replies::pair_up;
 use report_text::{Played, Report};
 use set_model::{Call, Counts, OutOfMemory, PlainSet, ReclaimerName, Reply, SetName};
 use std::alloc::Global;
@@ -46,13 +47,11 @@ fn insertions_in(calls: &[Call]) -> usize
 
 /// How many calls of the workload insert, all together.
 fn insertions_of(workload: &Workload) -> usize
-    ensures { result ≡ insertions_in (called (order_of workload.now.lists)) }
+    ensures { result ≡ sum_by insertions_in (joined workload.now.lists) }
 {
     let mut total = 0;
-    for phase in 0..workload.phases() + 1 {
-        for caller in 0..workload.callers() {
-            total += insertions_in(workload.calls_in(caller, phase));
-        }
+    for caller in 0..workload.callers() {
+        total += insertions_in(workload.calls_of(caller));
     }
     total
 }
@@ -147,21 +146,12 @@ fn report_of(workload: Workload, memory: Memory) -> Report
     let Memory {
         set,
         replies,
-        mut callers,
+        callers,
     } = memory;
-    let mut replies = replies.into_iter();
-    for calls in workload.into_lists() {
-        let own = replies.next().unwrap();
-        let played = Played {
-            calls: Listed::of(calls),
-            replies: Listed::of(own),
-        };
-        callers.push(played).unwrap();
-    }
     Report {
         set: SetName::Plain,
         reclaimer: ReclaimerName::Nothing,
-        callers: Listed::of(callers),
+        callers: pair_up(workload.into_lists(), replies, callers),
         size: set.len() as u64,
         sum: set.sum() as u64,
         counts: NO_COUNTS,
