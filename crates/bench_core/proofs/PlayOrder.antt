@@ -9,7 +9,8 @@ use Rattle.set_model.specs.declared.calls.Call.{Call}
 use Rattle.set_model.specs.Keys.{Keys}
 use Rattle.set_model.specs.Machine.{replies_of, keys_after_all, insertions_in}
 use Rattle.set_model.proofs.MachineRuns.{length-replies_of, insertions_in-le-length}
-use Rattle.workload_text.specs.Limits.{AllHavePhases, AreLawful, HasLawfulKey, IsWorkload, Plan, joined, phase_lines, total_of}
+use Rattle.workload_text.specs.Limits.{AllHavePhases, AreLawful, HasLawfulKey, IsWorkload, Plan, calls_of_all, joined, phase_lines, total_of}
+use Rattle.workload_text.proofs.Held.{total_joined}
 use Rattle.bench_core.specs.Plays.{Piece, pieces_in, pieces_over, order_of, called, told_to}
 use Rattle.bench_core.proofs.PlainRuns.{insertions_in-append, lawful-append}
 
@@ -26,11 +27,6 @@ rest-whole lists =
     let all : phase_lines lists + 1 - 0 ≡ phase_lines lists + 1 = omega arith in
     ap (λ count. pieces_over 0 count lists) all
 
-pub rest-first : (lists : List (List (List Call))) (phase : ℕ) → phase ≤ phase_lines lists → rest_at lists phase ≡ rest_in lists phase 0
-rest-first lists phase within =
-    let more : phase_lines lists + 1 - phase ≡ suc (phase_lines lists - phase) = omega (arith, within) in
-    ap (λ count. pieces_over phase count lists) more
-
 pub rest-turn : (lists : List (List (List Call))) (phase caller : ℕ) (calls : List Call) → caller < length lists
     → ((phases : List (List Call)) → slice_get lists caller ≡ Some phases → slice_get phases phase ≡ Some calls)
     → rest_in lists phase caller ≡ record { caller = caller; calls = calls } ∷ rest_in lists phase (suc caller)
@@ -39,12 +35,6 @@ rest-turn lists phase caller calls within is =
     let here : get_or phases phase [] ≡ calls = get_or_from_slice_get phases phase calls [] (is phases (slice_get-get_or lists caller [] within)) in
     ap (λ held. pieces_in phase held caller ++ pieces_over (suc phase) (phase_lines lists - phase) lists) (drop-cons lists caller [] within)
     ∙ ap (λ own. record { caller = caller; calls = own } ∷ rest_in lists phase (suc caller)) here
-
-pub rest-next : (lists : List (List (List Call))) (phase caller : ℕ) → length lists ≤ caller → rest_in lists phase caller ≡ rest_at lists (suc phase)
-rest-next lists phase caller past =
-    let same : phase_lines lists - phase ≡ phase_lines lists + 1 - suc phase = omega arith in
-    ap (λ held. pieces_in phase held caller ++ pieces_over (suc phase) (phase_lines lists - phase) lists) (drop_all caller lists past)
-    ∙ ap (λ count. pieces_over (suc phase) count lists) same
 
 pub rest-none : (lists : List (List (List Call))) (phase : ℕ) → phase_lines lists + 1 ≤ phase → rest_at lists phase ≡ []
 rest-none lists phase past =
@@ -94,12 +84,12 @@ own_count-in phase (phases ∷ lists) first (suc place) caller is =
     let next : caller ≡ suc first + place = omega (arith, is) in
     rw (ne_eqb first caller others) (omega (arith, own_count-in phase lists (suc first) place caller next))
 
--- how many calls there are in so many phases from this one on
-abbrev pub stretch : ℕ → ℕ → List (List Call) → ℕ
-stretch phase zero phases = 0
-stretch phase (suc count) phases = length (get_or phases phase []) + stretch (suc phase) count phases
+-- what f counts in so many phases from this one on
+abbrev stretch : (List Call → ℕ) → ℕ → ℕ → List (List Call) → ℕ
+stretch f phase zero phases = 0
+stretch f phase (suc count) phases = f (get_or phases phase []) + stretch f (suc phase) count phases
 
-own_count-over : (phase count : ℕ) (lists : List (List (List Call))) (caller : ℕ) → own_count caller (pieces_over phase count lists) ≡ stretch phase count (get_or lists caller [])
+own_count-over : (phase count : ℕ) (lists : List (List (List Call))) (caller : ℕ) → own_count caller (pieces_over phase count lists) ≡ stretch (λ calls. length calls) phase count (get_or lists caller [])
 own_count-over phase zero lists caller = refl
 own_count-over phase (suc count) lists caller =
     let here : caller ≡ 0 + caller = omega arith in
@@ -110,18 +100,18 @@ own_count-over phase (suc count) lists caller =
       own_count-over (suc phase) count lists caller,
     )
 
-stretch-all : (phase count : ℕ) (phases : List (List Call)) → phase + count ≡ length phases → stretch phase count phases ≡ sum_by length (drop phase phases)
-stretch-all phase zero phases all =
+stretch-all : (f : List Call → ℕ) (phase count : ℕ) (phases : List (List Call)) → phase + count ≡ length phases → stretch f phase count phases ≡ sum_by f (drop phase phases)
+stretch-all f phase zero phases all =
     let past : length phases ≤ phase = omega (arith, all) in
-    sym (ap (λ rest. sum_by length rest) (drop_all phase phases past))
-stretch-all phase (suc count) phases all =
+    sym (ap (λ rest. sum_by f rest) (drop_all phase phases past))
+stretch-all f phase (suc count) phases all =
     let within : phase < length phases = omega (arith, all) in
     let next : suc phase + count ≡ length phases = omega (arith, all) in
     omega (
       arith,
-      ap (λ rest. sum_by length rest) (drop-cons phases phase [] within),
-      sum_by-cons length (get_or phases phase []) (drop (suc phase) phases),
-      stretch-all (suc phase) count phases next,
+      ap (λ rest. sum_by f rest) (drop-cons phases phase [] within),
+      sum_by-cons f (get_or phases phase []) (drop (suc phase) phases),
+      stretch-all f (suc phase) count phases next,
     )
 
 phases-at : (count : ℕ) (lists : List (List (List Call))) (caller : ℕ) → AllHavePhases count lists → caller < length lists → length (get_or lists caller []) ≡ count + 1
@@ -140,7 +130,7 @@ pub own_count-order : (plan : Plan) → IsWorkload plan → (caller : ℕ) → c
 own_count-order plan limits caller within =
     let phases = get_or plan.lists caller [] in
     let all : 0 + (phase_lines plan.lists + 1) ≡ length phases = omega (arith, phases-at (phase_lines plan.lists) plan.lists caller limits.same_phases within) in
-    own_count-over 0 (phase_lines plan.lists + 1) plan.lists caller ∙ stretch-all 0 (phase_lines plan.lists + 1) phases all ∙ sym (length-joined plan.lists caller)
+    own_count-over 0 (phase_lines plan.lists + 1) plan.lists caller ∙ stretch-all (λ calls. length calls) 0 (phase_lines plan.lists + 1) phases all ∙ sym (length-joined plan.lists caller)
 
 sum_by-both : (f g : List (List Call) → ℕ) (lists : List (List (List Call))) → sum_by (λ phases. f phases + g phases) lists ≡ sum_by f lists + sum_by g lists
 sum_by-both f g [] = omega arith
@@ -151,57 +141,65 @@ sum_by-none : (lists : List (List (List Call))) → sum_by (λ phases. 0) lists 
 sum_by-none [] = refl
 sum_by-none (phases ∷ lists) = omega (arith, sum_by-none lists, sum_by-cons (λ p. 0) phases lists)
 
-length-called-in : (phase : ℕ) (lists : List (List (List Call))) (first : ℕ) → length (called (pieces_in phase lists first)) ≡ sum_by (λ phases. length (get_or phases phase [])) lists
-length-called-in phase [] first = refl
-length-called-in phase (phases ∷ lists) first =
-    omega (
-      arith,
-      length-append (get_or phases phase []) (called (pieces_in phase lists (suc first))),
-      length-called-in phase lists (suc first),
-      sum_by-cons (λ p. length (get_or p phase [])) phases lists,
-    )
-
-pub called-append : (pieces more : List Piece) → called (pieces ++ more) ≡ called pieces ++ called more
+called-append : (pieces more : List Piece) → called (pieces ++ more) ≡ called pieces ++ called more
 called-append pieces more = flat_map-append (λ piece. piece.calls) pieces more
 
-length-called-over : (phase count : ℕ) (lists : List (List (List Call))) → length (called (pieces_over phase count lists)) ≡ sum_by (λ phases. stretch phase count phases) lists
-length-called-over phase zero lists = sym (sum_by-none lists)
-length-called-over phase (suc count) lists =
-    omega (
-      arith,
-      ap length (called-append (pieces_in phase lists 0) (pieces_over (suc phase) count lists)),
-      length-append (called (pieces_in phase lists 0)) (called (pieces_over (suc phase) count lists)),
-      length-called-in phase lists 0,
-      length-called-over (suc phase) count lists,
-      sum_by-both (λ phases. length (get_or phases phase [])) (λ phases. stretch (suc phase) count phases) lists,
-    )
+-- A count over calls, as that of all calls and that of the insertions: of two lists joined it is the sum.
+module _ (f : List Call → ℕ) (none : f [] ≡ 0) (append : (calls more : List Call) → f (calls ++ more) ≡ f calls + f more) where
+  counted-in : (phase : ℕ) (lists : List (List (List Call))) (first : ℕ) → f (called (pieces_in phase lists first)) ≡ sum_by (λ phases. f (get_or phases phase [])) lists
+  counted-in phase [] first = none
+  counted-in phase (phases ∷ lists) first =
+      omega (
+        arith,
+        append (get_or phases phase []) (called (pieces_in phase lists (suc first))),
+        counted-in phase lists (suc first),
+        sum_by-cons (λ p. f (get_or p phase [])) phases lists,
+      )
 
-stretches-all : (count : ℕ) (lists : List (List (List Call))) → AllHavePhases count lists → sum_by (λ phases. stretch 0 (count + 1) phases) lists ≡ total_of lists
-stretches-all count [] all = refl
-stretches-all count (phases ∷ lists) all =
-    let whole : 0 + (count + 1) ≡ length phases = omega (arith, all.0) in
-    omega (
-      arith,
-      stretches-all count lists all.1,
-      stretch-all 0 (count + 1) phases whole,
-      sum_by-cons (λ p. stretch 0 (count + 1) p) phases lists,
-      sum_by-cons (λ p. sum_by length p) phases lists,
-    )
+  counted-over : (phase count : ℕ) (lists : List (List (List Call))) → f (called (pieces_over phase count lists)) ≡ sum_by (λ phases. stretch f phase count phases) lists
+  counted-over phase zero lists = none ∙ sym (sum_by-none lists)
+  counted-over phase (suc count) lists =
+      omega (
+        arith,
+        ap f (called-append (pieces_in phase lists 0) (pieces_over (suc phase) count lists)),
+        append (called (pieces_in phase lists 0)) (called (pieces_over (suc phase) count lists)),
+        counted-in phase lists 0,
+        counted-over (suc phase) count lists,
+        sum_by-both (λ phases. f (get_or phases phase [])) (λ phases. stretch f (suc phase) count phases) lists,
+      )
 
--- and of all callers as many as the workload has
+  counted-joined : (phases : List (List Call)) → f (calls_of_all phases) ≡ sum_by f phases
+  counted-joined [] = none
+  counted-joined (calls ∷ phases) = omega (arith, append calls (calls_of_all phases), counted-joined phases, sum_by-cons f calls phases)
+
+  stretches-all : (count : ℕ) (lists : List (List (List Call))) → AllHavePhases count lists → sum_by (λ phases. stretch f 0 (count + 1) phases) lists ≡ sum_by f (joined lists)
+  stretches-all count [] all = refl
+  stretches-all count (phases ∷ lists) all =
+      let whole : 0 + (count + 1) ≡ length phases = omega (arith, all.0) in
+      omega (
+        arith,
+        stretches-all count lists all.1,
+        stretch-all f 0 (count + 1) phases whole,
+        counted-joined phases,
+        sum_by-cons (λ p. stretch f 0 (count + 1) p) phases lists,
+        sum_by-cons f (calls_of_all phases) (joined lists),
+      )
+
+  -- in the order of play it comes to what it comes to list by list
+  counted-order : (plan : Plan) → IsWorkload plan → f (called (order_of plan.lists)) ≡ sum_by f (joined plan.lists)
+  counted-order plan limits = counted-over 0 (phase_lines plan.lists + 1) plan.lists ∙ stretches-all (phase_lines plan.lists) plan.lists limits.same_phases
+
+-- of all callers there are as many calls as the workload has
 pub length-called : (plan : Plan) → IsWorkload plan → length (called (order_of plan.lists)) ≡ total_of plan.lists
-length-called plan limits =
-    length-called-over 0 (phase_lines plan.lists + 1) plan.lists ∙ stretches-all (phase_lines plan.lists) plan.lists limits.same_phases
+length-called plan limits = counted-order (λ calls. length calls) refl length-append plan limits ∙ sym (total_joined plan.lists)
 
--- how many insertions follow, where these calls come next
-pub insertions-turn : (lists : List (List (List Call))) (phase caller : ℕ) (calls : List Call) → caller < length lists
-    → ((phases : List (List Call)) → slice_get lists caller ≡ Some phases → slice_get phases phase ≡ Some calls)
-    → insertions_in (called (rest_in lists phase caller)) ≡ insertions_in calls + insertions_in (called (rest_in lists phase (suc caller)))
-insertions-turn lists phase caller calls within is =
-    ap (λ pieces. insertions_in (called pieces)) (rest-turn lists phase caller calls within is) ∙ insertions_in-append calls (called (rest_in lists phase (suc caller)))
+-- and the insertions are those of each list
+pub insertions-called : (plan : Plan) → IsWorkload plan → insertions_in (called (order_of plan.lists)) ≡ sum_by insertions_in (joined plan.lists)
+insertions-called plan limits = counted-order insertions_in refl insertions_in-append plan limits
 
-pub insertions-few : (plan : Plan) → IsWorkload plan → insertions_in (called (order_of plan.lists)) ≤ 1000000
-insertions-few plan limits = omega (arith, insertions_in-le-length (called (order_of plan.lists)), length-called plan limits, limits.few_calls)
+pub insertions-few : (plan : Plan) → IsWorkload plan → sum_by insertions_in (joined plan.lists) ≤ 1000000
+insertions-few plan limits =
+    omega (arith, insertions-called plan limits, insertions_in-le-length (called (order_of plan.lists)), length-called plan limits, limits.few_calls)
 
 lawful-at : (phase : ℕ) (phases : List (List Call)) → AllByRecursion AreLawful phases → AreLawful (get_or phases phase [])
 lawful-at phase [] all = tt

@@ -1,6 +1,7 @@
 -- How far a run over the pieces has come, and what each caller was told.
-use Rattle.std.proofs.Common.{◌≡◌, ◌≢◌, ◌⊎◌, inl, inr, ℕ, zero, suc, ◌+◌, ◌<◌, ◌≤◌, cond, Some, List, [], ◌∷◌, ◌++◌, length, get_or, set, slice_get, sym, ap, ◌∙◌, refl, subst, arith, append_assoc, append-nil, length-append, length-set, eq-eqb, ne_eqb, vec_capacity}
+use Rattle.std.proofs.Common.{◌≡◌, ◌≢◌, ◌⊎◌, inl, inr, ℕ, zero, suc, ◌+◌, ◌<◌, ◌≤◌, cond, Some, List, [], ◌∷◌, ◌++◌, length, get_or, set, slice_get, sym, ap, ◌∙◌, refl, subst, arith, append_assoc, append-nil, length-append, length-set, vec_capacity}
 use Rattle.std.specs.Global.{Vec}
+use Rattle.std.proofs.lemmas.Bool.{eq-eqb, ne_eqb}
 use Rattle.std.proofs.lemmas.Option.{slice_get_within}
 use Rattle.set_model.specs.declared.calls.Call.{Call}
 use Rattle.set_model.specs.declared.calls.Reply.{Reply}
@@ -21,14 +22,6 @@ slice_get-set (x ∷ xs) zero y (suc k) z is = inr ((omega arith), is)
 slice_get-set (x ∷ xs) (suc i) y zero z is = inr ((omega arith), is)
 slice_get-set (x ∷ xs) (suc i) y (suc k) z is =
     elim (slice_get-set xs i y k z is) [ inl h ↦ inl ((omega (arith, h.0)), h.1) | inr h ↦ inr ((omega (arith, h.0)), h.1) ]
-
--- the element at the end, or one before it
-pub slice_get-more : {X : Type 0} (xs : List X) (y : X) (k : ℕ) (z : X) → slice_get (xs ++ y ∷ []) k ≡ Some z → ((k ≡ length xs) × (z ≡ y)) ⊎ (slice_get xs k ≡ Some z)
-slice_get-more [] y zero z is = inl (refl, cc)
-slice_get-more [] y (suc k) z is = absurd (cc)
-slice_get-more (x ∷ xs) y zero z is = inr is
-slice_get-more (x ∷ xs) y (suc k) z is =
-    elim (slice_get-more xs y k z is) [ inl h ↦ inl ((omega (arith, h.0)), h.1) | inr h ↦ inr h ]
 
 -- These pieces are left to play, with these keys, this room and these replies to each caller.
 pub record RunsTo (lists : List (List (List Call))) (rest : List Piece) (keys : Keys) (room : ℕ) (replies : List (Vec Reply)) : Type 0 where

@@ -1,5 +1,5 @@
 -- What a run on a plain set reports.
-use Rattle.std.specs.Prelude.{◌≡◌, ℕ, zero, suc, ◌+◌, ◌≤◌, cond, eqb, Some, List, [], ◌∷◌, ◌++◌, length, map, flat_map, slice_get, slice_index_or, vec_capacity}
+use Rattle.std.specs.Prelude.{◌≡◌, ℕ, zero, suc, ◌+◌, ◌≤◌, cond, eqb, Some, List, [], ◌∷◌, ◌++◌, length, flat_map, slice_get, slice_index_or, vec_capacity}
 use Rattle.std.specs.Global.{Vec}
 use Rattle.set_model.specs.declared.calls.Call.{Call}
 use Rattle.set_model.specs.declared.calls.Counts.{Counts}
@@ -10,11 +10,8 @@ use Rattle.set_model.specs.Keys.{Keys, empty, size_of, sum_of}
 use Rattle.set_model.specs.Machine.{replies_of, keys_after_all}
 use Rattle.report_text.specs.declared.report.Played.{Played}
 use Rattle.report_text.specs.declared.report.Report.{Report}
+use Rattle.paired_replies.specs.Pairs.{calls_of}
 use Rattle.workload_text.specs.Limits.{Plan, joined, phase_lines}
-
--- what each caller called
-abbrev pub calls_of : List Played → List (List Call)
-calls_of callers = map (λ played. played.calls) callers
 
 -- no record was touched
 abbrev pub no_counts : Counts

@@ -1,27 +1,17 @@
 // Playing a workload on a plain set, phase by phase, and in each phase one caller after another.
-ghost use Rattle.std.specs.Prelude.{◌≡◌, ◌+◌, ◌≤◌, [], ◌++◌, length, vec_capacity, IfOk};
+ghost use Rattle.std.specs.Prelude.{◌≡◌, ◌+◌, ◌≤◌, [], ◌++◌, length, sum_by, vec_capacity, IfOk};
 ghost use Rattle.set_model.specs.Keys.{empty, size_of};
 ghost use Rattle.set_model.specs.Machine.{insertions_in, keys_after_all, replies_of};
+ghost use Rattle.workload_text.specs.Limits.{joined};
 ghost use Rattle.bench_core.specs.Plays.{order_of, called, keys_left, AreReady, AreTold, IsPlainRun};
 
-use listed::Listed;
 use outside::Gate;
+use paired_replies::pair_up;
 use report_text::{Played, Report};
-use set_model::{Call, Counts, OutOfMemory, PlainSet, ReclaimerName, Reply, SetName};
+use set_model::{Call, OutOfMemory, PlainSet, ReclaimerName, Reply, SetName};
+use set_runs::NO_COUNTS;
 use std::alloc::Global;
 use workload_text::Workload;
-
-/// A plain set has no records.
-const NO_COUNTS: Counts = Counts {
-    drawn: 0,
-    reused: 0,
-    retired: 0,
-    freed: 0,
-    limbo: 0,
-    free: 0,
-    spare: 0,
-    spent: 0,
-};
 
 /// All memory of a run: the set, the replies to each caller and what is reported of the callers.
 #[derive(Debug, Drop)]
@@ -44,15 +34,14 @@ fn insertions_in(calls: &[Call]) -> usize
         .count()
 }
 
-/// How many calls of the workload insert, all together.
+/// How many calls of the workload insert, all together: 1,000,000 at most.
 pub fn insertions_of(workload: &Workload) -> usize
-    ensures { result ≡ insertions_in (called (order_of workload.now.lists)) }
+    ensures count { result ≡ sum_by insertions_in (joined workload.now.lists) }
+    ensures few { result ≤ 1000000 }
 {
     let mut total = 0;
-    for phase in 0..workload.phases() + 1 {
-        for caller in 0..workload.callers() {
-            total += insertions_in(workload.calls_in(caller, phase));
-        }
+    for caller in 0..workload.callers() {
+        total += insertions_in(workload.calls_of(caller));
     }
     total
 }
@@ -147,21 +136,12 @@ fn report_of(workload: Workload, memory: Memory) -> Report
     let Memory {
         set,
         replies,
-        mut callers,
+        callers,
     } = memory;
-    let mut replies = replies.into_iter();
-    for calls in workload.into_lists() {
-        let own = replies.next().unwrap();
-        let played = Played {
-            calls: Listed::of(calls),
-            replies: Listed::of(own),
-        };
-        callers.push(played).unwrap();
-    }
     Report {
         set: SetName::Plain,
         reclaimer: ReclaimerName::Nothing,
-        callers: Listed::of(callers),
+        callers: pair_up(workload.into_lists(), replies, callers),
         size: set.len() as u64,
         sum: set.sum() as u64,
         counts: NO_COUNTS,

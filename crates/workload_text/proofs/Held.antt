@@ -31,7 +31,7 @@ pub length_held : (lists : List (Vec Call)) (cuts : Option (Vec (Vec ℕ))) → 
 length_held lists None h = length-map (lists_of lists) (λ (calls : List Call). calls ∷ []) ∙ length-map lists (λ (v : Vec Call). v.items)
 length_held lists (Some cuts) h = length-cut_all (lists_of lists) (cuts_of cuts.items) h.cut ∙ length-map lists (λ (v : Vec Call). v.items)
 
-total_joined : (lists : List (List (List Call))) → total_of lists ≡ sum_by length (joined lists)
+pub total_joined : (lists : List (List (List Call))) → total_of lists ≡ sum_by length (joined lists)
 total_joined [] = refl
 total_joined (phases ∷ lists) =
     omega (arith, sum_by-cons (λ ps. sum_by length ps) phases lists, sum_by-cons length (calls_of_all phases) (joined lists), length-flat_map (λ (cs : List Call). cs) phases, total_joined lists)

@@ -1,58 +1,34 @@
-use Rattle.std.proofs.Common.{◌+◌, ◌<◌, ◌≤◌, length, ap, arith, add-one}
+use Rattle.std.proofs.Common.{◌≡◌, ◌<◌, [], length, get_or, ap, arith}
+use Rattle.std.proofs.lemmas.List.{length-map}
+use Rattle.std.proofs.lemmas.List.Sums.{sum_by_more, sum_by_more_le}
+use Rattle.std.proofs.lemmas.Option.{get_or_from_slice_get}
 use Rattle.set_model.specs.Machine.{insertions_in}
-use Rattle.workload_text.specs.Limits.{phase_lines}
-use Rattle.bench_core.specs.Plays.{called}
-use Rattle.bench_core.proofs.PlayOrder.{insertions-few, insertions-turn, rest-first, rest-next, rest-none}
+use Rattle.workload_text.specs.Limits.{calls_of_all, joined}
+use Rattle.bench_core.proofs.PlayOrder.{insertions-few}
 use Rattle.bench_core.proofs.playing.insertions_of.Goals as goal
-
-pub loop-caller-init : goal.loop-caller-init
-loop-caller-init c =
-    let lists = c.args.workload.now.lists in
-    let within : c.loop-phase.phase ≤ phase_lines lists = omega (arith, c.loop-phase.invariant.last, c.loop-phase-test.true) in
-    record {
-      last = c.callers-caller-end.ensures.count;
-      counted = omega (arith, c.loop-phase.invariant.counted, ap (λ pieces. insertions_in (called pieces)) (rest-first lists c.loop-phase.phase within));
-    }
 
 pub overflow_add-total : goal.overflow_add-total
 overflow_add-total c =
-    let lists = c.args.workload.now.lists in
-    let within : c.loop-caller.caller < length lists = omega (arith, c.loop-caller.invariant.last, c.loop-caller-test.true) in
+    let lists = joined c.args.workload.now.lists in
+    let caller = c.loop-caller.caller in
+    let within : caller < length lists = omega (arith, length-map c.args.workload.now.lists calls_of_all, c.loop-caller.invariant.last, c.loop-caller-test.true) in
+    let own : get_or lists caller [] ≡ c.calls_of.result.now = get_or_from_slice_get lists caller c.calls_of.result.now [] c.calls_of.ensures.calls in
     omega (
       arith,
       c.loop-caller.invariant.counted,
       c.insertions_in-total.ensures,
-      insertions-turn lists c.loop-phase.phase c.loop-caller.caller c.calls_in.result.now within c.calls_in.ensures.calls,
-      insertions-few c.args.workload.now c.calls_in.ensures.limits,
+      ap insertions_in own,
+      sum_by_more_le insertions_in lists caller [] within,
+      insertions-few c.args.workload.now c.calls_of.ensures.limits,
     )
 
 pub loop-caller-preserved : goal.loop-caller-preserved
 loop-caller-preserved c =
-    let lists = c.args.workload.now.lists in
-    let within : c.loop-caller.caller < length lists = omega (arith, c.loop-caller.invariant.last, c.loop-caller-test.true) in
+    let lists = joined c.args.workload.now.lists in
+    let caller = c.loop-caller.caller in
+    let within : caller < length lists = omega (arith, length-map c.args.workload.now.lists calls_of_all, c.loop-caller.invariant.last, c.loop-caller-test.true) in
+    let own : get_or lists caller [] ≡ c.calls_of.result.now = get_or_from_slice_get lists caller c.calls_of.result.now [] c.calls_of.ensures.calls in
     record {
       last = c.loop-caller.invariant.last;
-      counted = rw (add-one c.loop-caller.caller)
-          (omega (
-            arith,
-            c.loop-caller.invariant.counted,
-            c.insertions_in-total.ensures,
-            insertions-turn lists c.loop-phase.phase c.loop-caller.caller c.calls_in.result.now within c.calls_in.ensures.calls,
-          ));
+      counted = omega (arith, c.loop-caller.invariant.counted, c.insertions_in-total.ensures, ap insertions_in own, sum_by_more insertions_in lists caller [] within);
     }
-
-pub loop-phase-preserved : goal.loop-phase-preserved
-loop-phase-preserved c =
-    let lists = c.args.workload.now.lists in
-    let past : length lists ≤ c.loop-caller.caller = omega (arith, c.loop-caller.invariant.last, c.loop-caller-test.false) in
-    record {
-      last = c.loop-phase.invariant.last;
-      counted = rw (add-one c.loop-phase.phase)
-          (omega (arith, c.loop-caller.invariant.counted, ap (λ pieces. insertions_in (called pieces)) (rest-next lists c.loop-phase.phase c.loop-caller.caller past)));
-    }
-
-pub returns : goal.returns
-returns c =
-    let lists = c.args.workload.now.lists in
-    let past : phase_lines lists + 1 ≤ c.loop-phase.phase = omega (arith, c.loop-phase.invariant.last, c.loop-phase-test.false) in
-    omega (arith, c.loop-phase.invariant.counted, ap (λ pieces. insertions_in (called pieces)) (rest-none lists c.loop-phase.phase past))
