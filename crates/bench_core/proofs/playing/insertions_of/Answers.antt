@@ -1,6 +1,6 @@
 use Rattle.std.proofs.Common.{◌≡◌, ◌<◌, [], length, get_or, ap, arith}
 use Rattle.std.proofs.lemmas.List.{length-map}
-use Rattle.std.proofs.lemmas.List.Sums.{sum_by_more, sum_by_more_le}
+use Rattle.std.proofs.lemmas.List.Sums.{sum_by-take-le, sum_by_more, sum_by_more_le}
 use Rattle.std.proofs.lemmas.Option.{get_or_from_slice_get}
 use Rattle.set_model.specs.Machine.{insertions_in}
 use Rattle.workload_text.specs.Limits.{calls_of_all, joined}
@@ -32,3 +32,12 @@ loop-caller-preserved c =
       last = c.loop-caller.invariant.last;
       counted = omega (arith, c.loop-caller.invariant.counted, c.insertions_in-total.ensures, ap insertions_in own, sum_by_more insertions_in lists caller [] within);
     }
+
+pub returns-clause-few : goal.returns-clause-few
+returns-clause-few c =
+    omega (
+      arith,
+      c.loop-caller.invariant.counted,
+      sum_by-take-le insertions_in (joined c.args.workload.now.lists) c.loop-caller.caller,
+      insertions-few c.args.workload.now c.callers-caller-end.ensures.limits,
+    )
