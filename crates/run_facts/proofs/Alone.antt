@@ -1,6 +1,7 @@
 -- Where callers share no key, each is answered what it would be answered alone: of the keys of one caller the set holds, at each of its calls,
 -- what the calls of this caller before leave.
-use Rattle.std.proofs.Common.{◌≡◌, ◌≢◌, ℕ, zero, suc, ◌+◌, ◌-◌, ◌<◌, ◌≤◌, ◌⊎◌, inl, inr, ⊎_elim, List, [], ◌∷◌, ◌++◌, length, map, take, drop, Bool, true, false, not, ◌||◌, ◌&&◌, eqb, ne_eqb, Option, refl, sym, ap, ◌∙◌, subst, arith, add-one}
+use Rattle.std.proofs.Common.{◌≡◌, ◌≢◌, ℕ, zero, suc, ◌+◌, ◌-◌, ◌<◌, ◌≤◌, ◌⊎◌, inl, inr, ⊎_elim, Bool, true, false, not, ◌||◌, ◌&&◌, eqb, ne_eqb, refl, sym, ap, ◌∙◌, subst, arith, add-one}
+use Rattle.std.proofs.Common.{List, [], ◌∷◌, ◌++◌, length, map, take, drop, Option}
 use Rattle.std.proofs.Math.Seq.{take-suc, drop-cons}
 use Rattle.std.proofs.lemmas.Bool.Decides.{eqb_tells}
 use Rattle.std.proofs.lemmas.Bool.{true≢false}
@@ -139,16 +140,24 @@ module _ (P : ℕ → Type 0) where
         by true e = subst (λ b. after_by b a.position ≤ length updates) (sym e) (let is : IsUpdate s name updates c k a = subst (λ b. IsExplained s name b updates c k a) e (fits.explained c book at_book k a at) in omega (arith, below_at updates a.position is.update is.at))
         by false e = subst (λ b. after_by b a.position ≤ length updates) (sym e) (let is : IsPlaced s name updates a = subst (λ b. IsExplained s name b updates c k a) e (fits.explained c book at_book k a at) in is.within)
 
+      -- the first calls of this caller come before a place of the history, and the others behind it
+      abbrev Precede : ℕ → ℕ → Type 0
+      Precede k q = (n : ℕ) (b : Answered) → At book n b → n < k → after b ≤ q
+
+      abbrev Follow : ℕ → ℕ → Type 0
+      Follow k q = (n : ℕ) (b : Answered) → At book n b → k ≤ n → q ≤ before b
+
       -- the calls before one are placed behind it, and those after ahead
-      behind_place : (k : ℕ) (a : Answered) → At book k a → (n : ℕ) (b : Answered) → At book n b → n < k → after b ≤ a.position
+      behind_place : (k : ℕ) (a : Answered) → At book k a → Precede k a.position
       behind_place k a at n b there less = fits.ordered c book at_book n k b a there at less
 
-      ahead_place : (k : ℕ) (a : Answered) → At book k a → (n : ℕ) (b : Answered) → At book n b → k ≤ n → a.position ≤ before b
+      ahead_place : (k : ℕ) (a : Answered) → At book k a → Follow k a.position
       ahead_place k a at n b there more =
-          ⊎_elim (λ e. subst (λ (x : Answered). a.position ≤ x.position) (one_at book k a b at (subst (λ j. At book j b) e.1 there)) (omega arith)) (λ e. omega (arith, no_earlier a.decided a.position, fits.ordered c book at_book k n a b at there (let y : n ≢ k = e.1 in omega (arith, more, y)))) (eqb_tells n k)
+          ⊎_elim (λ e. subst (λ (x : Answered). a.position ≤ x.position) (one_at book k a b at (subst (λ j. At book j b) e.1 there)) (omega arith))
+          (λ e. omega (arith, no_earlier a.decided a.position, fits.ordered c book at_book k n a b at there (let y : n ≢ k = e.1 in omega (arith, more, y)))) (eqb_tells n k)
 
       -- one call more
-      agree_step : (k q : ℕ) (a : Answered) → At book k a → Agree (set_at a.position) (alone k) → q ≤ length updates → ((n : ℕ) (b : Answered) → At book n b → n < suc k → after b ≤ q) → ((n : ℕ) (b : Answered) → At book n b → suc k ≤ n → q ≤ before b) → Agree (set_at q) (alone (suc k))
+      agree_step : (k q : ℕ) (a : Answered) → At book k a → Agree (set_at a.position) (alone k) → q ≤ length updates → Precede (suc k) q → Follow (suc k) q → Agree (set_at q) (alone (suc k))
       agree_step k q a at_k prev within behind ahead = by a.decided refl where
         past : (m : ℕ) (b : Answered) → At book m b → b.decided ≡ true → a.position ≤ b.position → (m ≡ k → ⊥) → b.position < q → ⊥
         past m b at decided from other to =
@@ -162,7 +171,9 @@ module _ (P : ℕ → Type 0) where
             let u : IsUpdate s name updates c k a = subst (λ b. IsExplained s name b updates c k a) is (fits.explained c book at_book k a at_k) in
             let here : a.position + 1 ≤ q = subst (λ d. after_by d a.position ≤ q) is (behind k a at_k (omega arith)) in
             let whole : (a.position + 1) + (q - (a.position + 1)) ≡ q = omega (arith, here) in
-            let rest = quiet (a.position + 1) (q - (a.position + 1)) (omega (arith, whole, within)) (λ m b at decided from to. past m b at decided (omega (arith, from)) (λ same. let z : b.position ≡ a.position = ap (λ (x : Answered). x.position) (one_at book k b a (subst (λ j. At book j b) same at) at_k) in omega (arith, z, from)) (omega (arith, to, whole))) in
+            let place : (b : Answered) → At book k b → b.position ≡ a.position = λ b at. ap (λ (x : Answered). x.position) (one_at book k b a at at_k) in
+            let rest = quiet (a.position + 1) (q - (a.position + 1)) (omega (arith, whole, within))
+            (λ m b at decided from to. past m b at decided (omega (arith, from)) (λ same. omega (arith, place b (subst (λ j. At book j b) same at), from)) (omega (arith, to, whole))) in
             λ key mine_too. ap (λ x. contains (set_at x) key) (sym whole) ∙ rest key mine_too
             ∙ ap (λ (keys : Keys). contains keys key) (set_next a.position u.update u.at ∙ ap (λ (call : Call). keys_after call (set_at a.position)) u.call) ∙ agree_after a.call (set_at a.position) (alone k) prev key mine_too ∙ ap (λ (keys : Keys). contains keys key) (sym next)
         by false is =
@@ -170,12 +181,14 @@ module _ (P : ℕ → Type 0) where
             let told = tells_keys name (take a.position updates) a.call a.reply placed.answered in
             let here : a.position ≤ q = subst (λ d. after_by d a.position ≤ q) is (behind k a at_k (omega arith)) in
             let whole : a.position + (q - a.position) ≡ q = omega (arith, here) in
-            let rest = quiet a.position (q - a.position) (omega (arith, whole, within)) (λ m b at decided from to. past m b at decided from (λ same. true≢false (sym decided ∙ ap (λ (x : Answered). x.decided) (one_at book k b a (subst (λ j. At book j b) same at) at_k) ∙ is)) (omega (arith, to, whole))) in
+            let undecided : (b : Answered) → At book k b → b.decided ≡ false = λ b at. ap (λ (x : Answered). x.decided) (one_at book k b a at at_k) ∙ is in
+            let rest = quiet a.position (q - a.position) (omega (arith, whole, within))
+            (λ m b at decided from to. past m b at decided from (λ same. true≢false (sym decided ∙ undecided b (subst (λ j. At book j b) same at))) (omega (arith, to, whole))) in
             let reply : a.reply ≡ answer_of a.call (alone k) = told.1 ∙ same_answer a.call (set_at a.position) (alone k) (prev (key_of a.call) (own k a at_k)) in
             λ key mine_too. ap (λ x. contains (set_at x) key) (sym whole) ∙ rest key mine_too ∙ prev key mine_too ∙ sym (read_keeps a.call (alone k) a.reply told.0 reply key) ∙ ap (λ (keys : Keys). contains keys key) (sym next)
 
       -- at a place behind the first calls and before the others the set holds of this caller's keys what those leave
-      agree_at : (k q : ℕ) → k ≤ length book → q ≤ length updates → ((n : ℕ) (a : Answered) → At book n a → n < k → after a ≤ q) → ((n : ℕ) (a : Answered) → At book n a → k ≤ n → q ≤ before a) → Agree (set_at q) (alone k)
+      agree_at : (k q : ℕ) → k ≤ length book → q ≤ length updates → Precede k q → Follow k q → Agree (set_at q) (alone k)
       agree_at zero q few within behind ahead =
           subst (λ x. Agree (set_at x) (set_at 0)) (let z : 0 + q ≡ q = omega arith in z) (quiet 0 q (omega (arith, within)) (λ m a at decided from to. omega (arith, ahead m a at (omega arith), to)))
       agree_at (suc k) q few within behind ahead =

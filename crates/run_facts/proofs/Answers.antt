@@ -90,7 +90,8 @@ module _ {steps : Call → ℕ → Answer → Book → Book → Type 0} {budget 
         length-append before replies ∙ ap (λ n. n + length replies) first.0 ∙ ap (λ n. length (calls_of_all phases) + n) (turns_long turns) ∙ sym (ap length all ∙ length-append (calls_of_all phases) calls),
         turns_add turns ∙ ap (λ l. l ++ answered_among (with_replies calls replies)) (ap (λ (x : View). answers_in x.own.answered) met.rest ∙ first.1)
             ∙ append_assoc (answers_in u.own.answered) (answered_among (with_replies (calls_of_all phases) before)) (answered_among (with_replies calls replies))
-            ∙ ap (λ l. answers_in u.own.answered ++ l) (sym (ap (λ l. answered_among (with_replies l (before ++ replies))) all ∙ ap answered_among (with_more (calls_of_all phases) calls before replies first.0) ∙ among_more (with_replies (calls_of_all phases) before) (with_replies calls replies))),
+            ∙ ap (λ l. answers_in u.own.answered ++ l) (sym (ap (λ l. answered_among (with_replies l (before ++ replies))) all
+            ∙ ap answered_among (with_more (calls_of_all phases) calls before replies first.0) ∙ among_more (with_replies (calls_of_all phases) before) (with_replies calls replies))),
       )
 
   -- so the book that a closed table has of a caller has its replies

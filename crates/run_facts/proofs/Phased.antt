@@ -126,7 +126,9 @@ joined_parts phases p = ap calls_of_all (sym (take-append-drop p phases)) ∙ fl
 fewer_before : (phases : List (List Call)) (replies : List Reply) (p : ℕ) → answered_before phases replies p ≤ length (answered_among (with_replies (calls_of_all phases) replies))
 fewer_before phases replies p =
     let h = with_front (calls_of_all (take p phases)) (calls_of_all (drop p phases)) replies in
-    omega (arith, ap (λ l. length (answered_among (with_replies l replies))) (joined_parts phases p), ap (λ l. length (answered_among l)) h.1, ap length (among_more (with_replies (calls_of_all (take p phases)) replies) h.0), length-append (answered_among (with_replies (calls_of_all (take p phases)) replies)) (answered_among h.0))
+    let early = with_replies (calls_of_all (take p phases)) replies in
+    let whole = ap (λ l. length (answered_among (with_replies l replies))) (joined_parts phases p) in
+    omega (arith, whole, ap (λ l. length (answered_among l)) h.1, ap length (among_more early h.0), length-append (answered_among early) (answered_among h.0))
 
 -- what holds at the end of so many phases
 record Parted (phases : List (List Call)) (replies : List Reply) (bounds : List ℕ) (v : View) : Type 0 where

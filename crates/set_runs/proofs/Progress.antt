@@ -4,12 +4,13 @@ use Rattle.std.specs.List.{AllByRecursion}
 use Rattle.std.proofs.Math.Seq.{take-suc}
 use Rattle.std.proofs.lemmas.List.Sums.{sum_by_push, sum_by_more_le, get_or-le-sum_by}
 use Rattle.set_model.specs.declared.calls.Call.{Call}
+use Rattle.set_model.specs.declared.calls.Call.TheVariants.{Insert}
 use Rattle.set_model.specs.declared.calls.Reply.{Reply}
 use Rattle.record_memory.specs.declared.books.Book.{Book}
 use Rattle.record_memory.specs.declared.books.View.{View}
 use Rattle.workload_text.specs.Limits.{Plan, IsWorkload, phase_lines}
 use Rattle.set_api.specs.declared.answer.Answer.{Answer}
-use Rattle.set_api.specs.Turns.{Turns, Phases}
+use Rattle.set_api.specs.Turns.{Turn, Turns, Phases}
 use Rattle.set_runs.specs.declared.players.Player.{Player}
 use Rattle.set_runs.specs.Playing.{phases_of, calls_at, HasMet, IsReady, HasPlayed, IsAt}
 
@@ -18,6 +19,12 @@ pub by_recursion_at : {X : Type 0} (P : X → Type 0) (xs : List X) (i : ℕ) (d
 by_recursion_at P [] i d h within = absurd (omega (arith, within))
 by_recursion_at P (x ∷ xs) zero d h within = h.0
 by_recursion_at P (x ∷ xs) (suc i) d h within = by_recursion_at P xs i d h.1 (omega (arith, within))
+
+-- one call more is answered
+pub turns_more : {steps : Call → ℕ → Answer → Book → Book → Type 0} {budget : ℕ} {replies : List Reply} {r : Reply} {u v w : View} (calls : List Call) (i : ℕ) → i < length calls
+    → Turns steps budget (take i calls) replies u v → Turn steps budget (get_or calls i (Insert 0)) r v w → Turns steps budget (take (i + 1) calls) (replies ++ r ∷ []) u w
+turns_more {steps} {budget} {replies} {r} {u} {v} {w} calls i there before turn =
+    rw (add-one i) (subst (λ l. Turns steps budget l (replies ++ r ∷ []) u w) (sym (take-suc calls i (Insert 0) there)) (Turns.next before turn))
 
 -- each call has its reply
 pub turns_length : {steps : Call → ℕ → Answer → Book → Book → Type 0} {budget : ℕ} {calls : List Call} {replies : List Reply} {u v : View} → Turns steps budget calls replies u v → length replies ≡ length calls

@@ -1,9 +1,9 @@
 -- A run from its start to the closed table.
-use Rattle.std.proofs.Common.{◌≡◌, ℕ, zero, suc, ◌+◌, ◌<◌, List, [], ◌∷◌, ◌++◌, length, map, get_or, take, Some, slice_get, refl, sym, ap, ◌∙◌, subst, arith}
-use Rattle.std.proofs.Math.Seq.{take-length, take-append_seam}
+use Rattle.std.proofs.Common.{◌≡◌, ℕ, zero, suc, ◌+◌, ◌<◌, List, [], ◌∷◌, All, length, map, get_or, take, Some, slice_get, refl, sym, ap, ◌∙◌, subst, arith}
+use Rattle.std.proofs.Math.Seq.{take-length}
 use Rattle.std.proofs.Math.ListN.{get_or-map}
 use Rattle.std.proofs.lemmas.List.{length-map}
-use Rattle.std.proofs.lemmas.List.Elements.{All-get_or}
+use Rattle.std.proofs.lemmas.List.Elements.{All-get_or, All-map}
 use Rattle.std.proofs.lemmas.Option.{slice_get_within, get_or_from_slice_get}
 use Rattle.set_model.specs.declared.calls.Call.{Call}
 use Rattle.set_model.specs.declared.calls.Reply.{Reply}
@@ -23,21 +23,17 @@ use Rattle.set_runs.specs.Runs.{AreAtStart, IsCallersPlay}
 use Rattle.set_runs.proofs.Progress.{by_recursion_at}
 
 -- what stands at a place of a mapped list comes from what stands there
-pub from_map : {X Y : Type 0} (f : X → Y) (xs : List X) (i : ℕ) (y : Y) → slice_get (map f xs) i ≡ Some y → (x : X) × (slice_get xs i ≡ Some x) × (f x ≡ y)
+from_map : {X Y : Type 0} (f : X → Y) (xs : List X) (i : ℕ) (y : Y) → slice_get (map f xs) i ≡ Some y → (x : X) × (slice_get xs i ≡ Some x) × (f x ≡ y)
 from_map f [] i y at = absurd (omega (arith, slice_get_within [] i y at))
 from_map f (x ∷ xs) zero y at = (x, refl, get_or_from_slice_get (f x ∷ map f xs) 0 y y at)
 from_map f (x ∷ xs) (suc i) y at = from_map f xs i y at
 
-pub same_element : {X : Type 0} (xs : List X) (i : ℕ) (x y : X) → slice_get xs i ≡ Some x → slice_get xs i ≡ Some y → x ≡ y
+same_element : {X : Type 0} (xs : List X) (i : ℕ) (x y : X) → slice_get xs i ≡ Some x → slice_get xs i ≡ Some y → x ≡ y
 same_element xs i x y a b = sym (get_or_from_slice_get xs i x x a) ∙ get_or_from_slice_get xs i y x b
 
 pub map_twice : {X Y Z : Type 0} (f : Y → Z) (g : X → Y) (xs : List X) → map f (map g xs) ≡ map (λ x. f (g x)) xs
 map_twice f g [] = refl
 map_twice f g (x ∷ xs) = ap (λ l. f (g x) ∷ l) (map_twice f g xs)
-
--- a slice that was written back into its vector
-pub written_back : {X : Type 0} (n : ℕ) (xs ys : List X) → length xs ≡ n → take n (xs ++ ys) ≡ xs
-written_back n xs ys e = ap (λ k. take k (xs ++ ys)) (sym e) ∙ take-append_seam xs ys
 
 -- numbers that are their places
 pub numbers_by_place : {X : Type 0} (f : X → ℕ) (xs : List X) (from : ℕ) → ((i : ℕ) (d : X) → i < length xs → f (get_or xs i d) ≡ from + i) → map f xs ≡ numbers_from from (length xs)
@@ -72,7 +68,12 @@ module _ {T C : Type 0} (has : T → C → Type 0) (set' : T) (view : C → View
   }
 
   module _ (count : ℕ) (bounds : List ℕ) (players left : List (Player C)) (start : AreAtStart has set' view setup first lists players) (at : AtEach (λ i p. IsAt has set' lists count view steps budget bounds i (view p.caller)) players left) where
-    -- the callers are still in order of number
+    -- they are still callers of the set
+    pub callers_stay : All (has set') (map (λ (p : Player C). p.caller) left)
+    callers_stay = All-map (has set') (λ (p : Player C). p.caller) left
+        (λ k d there. (at.each k d (subst (λ n. k < n) at.same_length there)).has_it)
+
+    -- in order of number
     pub in_order : map (λ c. (view c).own.caller) (map (λ (p : Player C). p.caller) left) ≡ numbers_from 0 setup.callers
     in_order = map_twice (λ c. (view c).own.caller) (λ (p : Player C). p.caller) left
         ∙ numbers_by_place (λ (p : Player C). (view p.caller).own.caller) left 0 (λ i d there. let within : i < length players = subst (λ n. i < n) at.same_length there in
@@ -80,7 +81,7 @@ module _ {T C : Type 0} (has : T → C → Type 0) (set' : T) (view : C → View
         ∙ ap (numbers_from 0) (at.same_length ∙ start.all ∙ sym start.callers)
 
     -- each played what is its part of the run
-    pub callers_play : ((i : ℕ) → i < length lists → length (phases_of lists i) ≡ count) → (i : ℕ) (p : Player C) → slice_get left i ≡ Some p → IsCallersPlay steps budget setup first i (phases_of lists i) p.replies.items bounds (view p.caller).own
+    callers_play : ((i : ℕ) → i < length lists → length (phases_of lists i) ≡ count) → (i : ℕ) (p : Player C) → slice_get left i ≡ Some p → IsCallersPlay steps budget setup first i (phases_of lists i) p.replies.items bounds (view p.caller).own
     callers_play whole i p here =
         let within : i < length players = subst (λ n. i < n) at.same_length (slice_get_within left i p here) in
         let there = at.each i p within in
@@ -95,6 +96,17 @@ module _ {T C : Type 0} (has : T → C → Type 0) (set' : T) (view : C → View
               (subst (λ ps. Phases steps budget ps (get_or left i p).replies.items bounds (view (get_or players i p).caller) (view (get_or left i p).caller)) all there.played);
           book_is = refl;
         }
+
+    -- so the replies and the books of all are those of a run
+    pub each_plays : ((i : ℕ) → i < length lists → length (phases_of lists i) ≡ count) → (i : ℕ) (own : List Reply) (book : Book)
+        → slice_get (map (λ (p : Player C). p.replies.items) left) i ≡ Some own → slice_get (map (λ (p : Player C). (view p.caller).own) left) i ≡ Some book
+        → IsCallersPlay steps budget setup first i (phases_of lists i) own bounds book
+    each_plays whole i own book told kept =
+        let p = from_map (λ (q : Player C). q.replies.items) left i own told in
+        let q = from_map (λ (r : Player C). (view r.caller).own) left i book kept in
+        let same : (view p.0.caller).own ≡ book = ap (λ (r : Player C). (view r.caller).own) (same_element left i p.0 q.0 p.1 q.1) ∙ q.2 in
+        subst (λ rs. IsCallersPlay steps budget setup first i (phases_of lists i) rs bounds book) p.2
+        (subst (λ b. IsCallersPlay steps budget setup first i (phases_of lists i) p.0.replies.items bounds b) same (callers_play whole i p.0 p.1))
 
 -- each caller of a lawful workload has all phases
 pub whole_phases : (plan : Plan) → IsWorkload plan → (i : ℕ) → i < length plan.lists → length (phases_of plan.lists i) ≡ phase_lines plan.lists + 1

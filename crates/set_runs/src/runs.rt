@@ -1,9 +1,12 @@
 // A whole run.
-ghost use Rattle.std.specs.Prelude.{◌≡◌, ◌≤◌, [], length, vec_capacity, IfOk};
+ghost use Rattle.std.specs.Prelude.{◌≡◌, ℕ, ◌+◌, ◌≤◌, List, [], length, vec_capacity, IfOk};
+ghost use Rattle.workload_text.specs.Limits.{IsWorkload, phase_lines};
 ghost use Rattle.set_api.specs.Callers.{AreFreshCallers};
+ghost use Rattle.set_runs.specs.Playing.{AtEach, IsAt};
 ghost use Rattle.set_runs.specs.Runs.{AreAtStart, IsSetRun, items_of};
 
 use crate::phases::play_phases;
+use crate::players::Player;
 use crate::seats::{Seats, leave_all, seat_all};
 use crate::totals::total_counts;
 use outside::Gate;
@@ -26,6 +29,28 @@ pub struct Played {
     pub replies: Vec<Vec<Reply>>,
 }
 
+// Plays all phases, and hands the players back.
+fn play_out<
+    R: Threads + Wait + Sync,
+    G: Gate + Sync,
+    C: Drop + Send,
+    S: ConcurrentSet<Caller = C> + Sync,
+>(
+    rt: &R,
+    gate: &G,
+    set: &S,
+    workload: &Workload,
+    budget: u32,
+    mut players: Vec<Player<C>>,
+) -> Vec<Player<C>>
+    requires { AreAtStart S.has set.now S.view (S.setup set.now) S.cover.first workload.now.lists players.items }
+    ensures limits { IsWorkload workload.now }
+    ensures at { (bounds : List ℕ) × AtEach (λ i p. IsAt S.has set.now workload.now.lists (phase_lines workload.now.lists + 1) S.view (S.steps (S.setup set.now)) budget bounds i (S.view p.caller)) players.items result.items }
+{
+    play_phases(rt, gate, set, workload, budget, &mut players);
+    players
+}
+
 /// Plays the workload on the set: phase by phase, and in each phase all callers at the same time. Each
 /// caller makes its calls one after another, each within a budget of so many hops and again where it may be
 /// made again. The gate is told of each call before and after it. Between two phases all callers meet.
@@ -42,11 +67,11 @@ pub fn play_workload<
     ensures { IsSetRun S.facts S.cover S.steps budget (S.setup set) workload.now.lists (items_of result.replies.items) result.counts result.closed }
 {
     let Seats {
-        mut players,
+        players,
         mut callers,
         mut replies,
     } = seats;
-    play_phases(rt, gate, &set, workload, budget, &mut players);
+    let players = play_out(rt, gate, &set, workload, budget, players);
     let counts = total_counts(&set, &players);
     leave_all(players, &mut callers, &mut replies);
     let closed = set.close(callers);

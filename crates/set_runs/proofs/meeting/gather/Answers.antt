@@ -2,8 +2,13 @@ use Rattle.set_runs.proofs.Learning.{gathering_more}
 use Rattle.set_runs.proofs.meeting.gather.Goals as goal
 
 pub loop-at-preserved : goal.loop-at-preserved
-loop-at-preserved g c = record {
-  last = c.loop-at.invariant.last;
-  gathering =
-      gathering_more g.S.ConcurrentSet.has c.args.set.now g.S.ConcurrentSet.view c.args.first.now c.args.others.now c.loop-at.at c.loop-at.first c.loop-at.others c.index-others-at.result c.meet.new.from c.meet.new.into c.loop-at.invariant.gathering c.loop-at-test.true c.meet.ensures.has.0 c.meet.ensures.unchanged c.meet.ensures.has.1 c.meet.ensures.met;
-}
+loop-at-preserved g c =
+    let s = g.S.ConcurrentSet in
+    let l = c.loop-at in
+    let met = c.meet.ensures in
+    record {
+      last = l.invariant.last;
+      gathering =
+          gathering_more s.has c.args.set.now s.view c.args.first.now c.args.others.now l.at l.first l.others c.index-others-at.result
+          c.meet.new.from c.meet.new.into l.invariant.gathering c.loop-at-test.true met.has.0 met.unchanged met.has.1 met.met;
+    }

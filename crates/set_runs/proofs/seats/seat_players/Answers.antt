@@ -23,12 +23,17 @@ pub loop-caller-preserved : goal.loop-caller-preserved
 loop-caller-preserved g c =
     let players = c.loop-caller.players.items in
     let rest = into_iter_items c.next.new.self in
+    let lists = c.args.workload.now.lists in
     let items = c.in_ok-push.ensures.items in
+    let number = c.len-number.ensures ∙ c.loop-caller.players.ok.0 in
+    let calls = calls_length lists c.len-number.result c.calls_of.result.now c.calls_of.ensures.calls in
+    let room = subst (λ n. sum_by length (phases_of lists n) ≤ vec_capacity c.in_ok-replies.replies) number (omega (arith, calls, c.in_ok-replies.ensures.capacity)) in
     record {
       can_next = tt;
       is_finite = tt;
       callers_are = ap (λ l. map (λ (p : Player g.row.C.Denot). p.caller) l ++ rest) items ∙ ap (λ l. l ++ rest) (map-append (λ (p : Player g.row.C.Denot). p.caller) players _)
           ∙ append_assoc (map (λ (p : Player g.row.C.Denot). p.caller) players) (c.in-Some.caller ∷ []) rest ∙ ap (λ l. map (λ (p : Player g.row.C.Denot). p.caller) players ++ l) (sym c.in-Some.ensures.steps.0) ∙ c.loop-caller.invariant.callers_are;
-      each = λ i d there. subst (λ l. (k : _) (e : Player g.row.C.Denot) → k < length l → IsSeated c.args.workload.now.lists k (get_or l k e)) (sym items)
-          (each_push (λ k (p : Player g.row.C.Denot). IsSeated c.args.workload.now.lists k p) players _ c.loop-caller.invariant.each (record { number_is = c.len-number.ensures ∙ c.loop-caller.players.ok.0; none = c.in_ok-replies.ensures.items; room = subst (λ n. sum_by length (phases_of c.args.workload.now.lists n) ≤ vec_capacity c.in_ok-replies.replies) (c.len-number.ensures ∙ c.loop-caller.players.ok.0) (omega (arith, calls_length c.args.workload.now.lists c.len-number.result c.calls_of.result.now c.calls_of.ensures.calls, c.in_ok-replies.ensures.capacity)) })) i d there;
+      each = λ i d there. subst (λ l. (k : _) (e : Player g.row.C.Denot) → k < length l → IsSeated lists k (get_or l k e)) (sym items)
+          (each_push (λ k (p : Player g.row.C.Denot). IsSeated lists k p) players _ c.loop-caller.invariant.each
+          (record { number_is = number; none = c.in_ok-replies.ensures.items; room = room })) i d there;
     }
