@@ -1,12 +1,10 @@
 -- Where callers share no key, each is told what it would be told alone.
-use Rattle.std.proofs.Common.{◌≡◌, ◌≢◌, ℕ, zero, suc, ◌+◌, ◌%◌, ◌<◌, ◌≤◌, inl, inr, Option, false, not, ◌||◌, ◌&&◌, eqb, Some, List, [], ◌∷◌, ◌++◌, map, slice_get, slice_index_or, refl, sym, ap, ◌∙◌, subst, ne_eqb, append-nil, add-one, arith}
+use Rattle.std.proofs.Common.{◌≡◌, ◌≢◌, ℕ, zero, suc, ◌+◌, ◌%◌, ◌<◌, ◌≤◌, inl, inr, Option, false, Some, List, [], ◌∷◌, ◌++◌, map, slice_get, slice_index_or, refl, sym, ap, ◌∙◌, subst, ne_eqb, append-nil, add-one, arith}
 use Rattle.std.proofs.lemmas.Bool.Decides.{eqb_tells}
 use Rattle.std.specs.List.{AllByRecursion}
 use Rattle.set_model.specs.declared.calls.Call.{Call}
-use Rattle.set_model.specs.declared.calls.Call.TheVariants.{Insert, Remove, Search}
 use Rattle.set_model.specs.Keys.{Keys, contains, empty}
 use Rattle.set_model.specs.Machine.{key_of, keys_after, keys_after_all, reply_of, reply_of_answer, replies_of}
-use Rattle.set_model.proofs.KeySets.{contains-insert, contains-remove}
 use Rattle.workload_gen.specs.declared.plan.GenPlan.{GenPlan}
 use Rattle.workload_gen.specs.Generated.{caller_calls, callers_from, generated}
 use Rattle.workload_gen.proofs.Lawful.{no_phase_lines}
@@ -22,6 +20,7 @@ use Rattle.set_model.specs.declared.names.SetName.{SetName}
 use Rattle.set_model.specs.declared.names.SetName.TheVariants.{Plain, Michael, Lazy}
 use Rattle.report_text.specs.declared.report.Played.{Played}
 use Rattle.report_text.specs.declared.report.Report.{Report}
+use Rattle.run_facts.proofs.Alone.{Agree, agree_after, left_alone, same_answer}
 use Rattle.bench_core.specs.declared.ending.Run.{Run}
 use Rattle.bench_core.specs.declared.ending.Verdict.{Verdict}
 use Rattle.bench_core.specs.declared.ending.Verdict.TheVariants as verdict
@@ -32,36 +31,17 @@ use Rattle.bench_core.specs.Plays.{AreAlone, IsPlainRun, pieces_in, order_of, to
 abbrev Name : (ℕ → Type 0) → List Call → Type 0
 Name P calls = AllByRecursion (λ call. P (key_of call)) calls
 
--- two sets have the same of these keys
-abbrev Agree : (ℕ → Type 0) → Keys → Keys → Type 0
-Agree P s t = (key : ℕ) → P key → contains s key ≡ contains t key
-
-agree-after : (P : ℕ → Type 0) (call : Call) (s t : Keys) → Agree P s t → Agree P (keys_after call s) (keys_after call t)
-agree-after P (Insert added) s t same = λ key own. contains-insert s added key ∙ ap (λ b. eqb key added || b) (same key own) ∙ sym (contains-insert t added key)
-agree-after P (Remove gone) s t same = λ key own. contains-remove s gone key ∙ ap (λ b. not (eqb key gone) && b) (same key own) ∙ sym (contains-remove t gone key)
-agree-after P (Search key) s t same = same
-
-same_reply : (call : Call) (s t : Keys) → contains s (key_of call) ≡ contains t (key_of call) → reply_of call s ≡ reply_of call t
-same_reply (Insert key) s t same = ap (λ b. reply_of_answer (not b)) same
-same_reply (Remove key) s t same = ap reply_of_answer same
-same_reply (Search key) s t same = ap reply_of_answer same
-
 -- calls on such keys are told the same
 same_replies : (P : ℕ → Type 0) (calls : List Call) (s t : Keys) → Name P calls → Agree P s t → replies_of calls s ≡ replies_of calls t
 same_replies P [] s t names same = refl
 same_replies P (call ∷ calls) s t names same =
-    ap (λ reply. reply ∷ replies_of calls (keys_after call s)) (same_reply call s t (same (key_of call) names.0))
-    ∙ ap (λ replies. reply_of call t ∷ replies) (same_replies P calls (keys_after call s) (keys_after call t) names.1 (agree-after P call s t same))
-
-untouched-once : (key : ℕ) (call : Call) (keys : Keys) → key ≢ key_of call → contains (keys_after call keys) key ≡ contains keys key
-untouched-once key (Insert added) keys other = contains-insert keys added key ∙ ap (λ b. b || contains keys key) (ne_eqb key added other)
-untouched-once key (Remove gone) keys other = contains-remove keys gone key ∙ ap (λ b. not b && contains keys key) (ne_eqb key gone other)
-untouched-once key (Search wanted) keys other = refl
+    ap (λ answer. reply_of_answer answer ∷ replies_of calls (keys_after call s)) (same_answer call s t (same (key_of call) names.0))
+    ∙ ap (λ replies. reply_of call t ∷ replies) (same_replies P calls (keys_after call s) (keys_after call t) names.1 (agree_after P call s t same))
 
 -- calls on other keys leave a key as it was
 untouched : (key : ℕ) (calls : List Call) (keys : Keys) → Name (λ other. key ≢ other) calls → contains (keys_after_all calls keys) key ≡ contains keys key
 untouched key [] keys names = refl
-untouched key (call ∷ calls) keys names = untouched key calls (keys_after call keys) names.1 ∙ untouched-once key call keys names.0
+untouched key (call ∷ calls) keys names = untouched key calls (keys_after call keys) names.1 ∙ left_alone key call keys names.0
 
 -- each caller's calls in one phase
 abbrev one_phase : List (List Call) → List (List (List Call))
