@@ -1,6 +1,5 @@
 -- What a run on the hash table leaves, by its reclaimer.
 use Rattle.std.specs.Prelude.{ℕ, ◌+◌, ◌*◌, List, length}
-use Rattle.std.specs.Global.{Vec}
 use Rattle.set_model.specs.declared.calls.Call.{Call}
 use Rattle.set_model.specs.declared.calls.Counts.{Counts}
 use Rattle.set_model.specs.declared.calls.Reply.{Reply}
@@ -23,5 +22,5 @@ abbrev pub none_manner : Manner
 none_manner = manner Enters Leaves Bears Reaches PutsAway Draws Refuses 0 (λ steps. ⊥)
 
 -- A run on a table of so many records and buckets, prepared at generation 1, within the budget of hops that a run gives each call
-abbrev pub IsNoneRun : ℕ → ℕ → List (List (List Call)) → List (Vec Reply) → Counts → Closed → Type 0
+abbrev pub IsNoneRun : ℕ → ℕ → List (List (List Call)) → List (List Reply) → Counts → Closed → Type 0
 IsNoneRun records buckets lists replies counts closed = IsSetRun michael none (MakesPiece none_manner) (2 * records + 64) (setup_with records buckets (length lists) 1 Michael Nothing Bump) lists replies counts closed

@@ -1,5 +1,6 @@
 // Runs under no reclamation.
 ghost use Rattle.std.specs.Prelude.{◌<◌, ◌≤◌, IfOk};
+ghost use Rattle.set_runs.specs.Runs.{items_of};
 ghost use Rattle.hash_runs.specs.HashRuns.{IsNoneRun};
 
 use alloc_bump::Bump;
@@ -30,7 +31,7 @@ pub fn play_hash_none<R: Threads + Wait + Sync, G: Gate + Sync>(
     requires most { records ≤ 1048575 }
     requires buckets { 0 < buckets }
     requires room { buckets ≤ records }
-    ensures { IfOk result (λ played. IsNoneRun records buckets workload.now.lists played.replies.items played.counts played.closed) }
+    ensures { IfOk result (λ played. IsNoneRun records buckets workload.now.lists (items_of played.replies.items) played.counts played.closed) }
 {
     let Some(first) = Generation::new(1) else {
         unreachable!()

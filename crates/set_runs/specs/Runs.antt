@@ -1,5 +1,5 @@
 -- What a workload leaves that was played on a set which callers share.
-use Rattle.std.specs.Prelude.{◌≡◌, ℕ, ◌<◌, List, length, Some, slice_get, slice_index_or}
+use Rattle.std.specs.Prelude.{◌≡◌, ℕ, ◌<◌, List, length, map, Some, slice_get, slice_index_or}
 use Rattle.std.specs.Global.{Vec}
 use Rattle.set_model.specs.declared.calls.Call.{Call}
 use Rattle.set_model.specs.declared.calls.Counts.{Counts}
@@ -19,6 +19,10 @@ use Rattle.set_runs.specs.declared.players.Player.{Player}
 use Rattle.set_runs.specs.Playing.{phases_of, IsSeated}
 use Rattle.set_runs.specs.Totals.{AreTotalsOf}
 
+-- the lists that vectors of replies hold
+abbrev pub items_of : List (Vec Reply) → List (List Reply)
+items_of replies = map (λ own. own.items) replies
+
 -- Each has its seat and made no step yet
 pub record AreAtStart {T C : Type 0} (has : T → C → Type 0) (set : T) (view : C → View) (setup : Setup) (first : Guard) (lists : List (List (List Call))) (players : List (Player C)) : Type 0 where
   pub all : length players ≡ length lists
@@ -37,7 +41,7 @@ pub record IsCallersPlay (steps : Call → ℕ → Answer → Book → Book → 
 
 -- A table of these numbers and names was closed by the facts of the set and of the reclaimer. To the book that it has of each caller lead
 -- that caller's calls with its replies. Whatever is in `bounds` of a phase comes between all calls of the phases before and all calls of this one.
-pub record IsSetRun (s : ShapeFacts) (c : CoverFacts) (steps : Setup → Call → ℕ → Answer → Book → Book → Type 0) (budget : ℕ) (setup : Setup) (lists : List (List (List Call))) (replies : List (Vec Reply)) (counts : Counts) (closed : Closed) : Type 0 where
+pub record IsSetRun (s : ShapeFacts) (c : CoverFacts) (steps : Setup → Call → ℕ → Answer → Book → Book → Type 0) (budget : ℕ) (setup : Setup) (lists : List (List (List Call))) (replies : List (List Reply)) (counts : Counts) (closed : Closed) : Type 0 where
   pub setup_is : closed_setup closed ≡ setup
   pub fits : IsClosedBy s c closed
   pub moves : AreAddedUp closed
@@ -45,4 +49,4 @@ pub record IsSetRun (s : ShapeFacts) (c : CoverFacts) (steps : Setup → Call �
   pub all_replies : length replies ≡ length lists
   pub all_books : length (closed_books closed) ≡ length lists
   pub bounds : List ℕ
-  pub each : (i : ℕ) (own : Vec Reply) (book : Book) → slice_get replies i ≡ Some own → slice_get (closed_books closed) i ≡ Some book → IsCallersPlay (steps setup) budget setup c.first i (phases_of lists i) own.items bounds book
+  pub each : (i : ℕ) (own : List Reply) (book : Book) → slice_get replies i ≡ Some own → slice_get (closed_books closed) i ≡ Some book → IsCallersPlay (steps setup) budget setup c.first i (phases_of lists i) own bounds book

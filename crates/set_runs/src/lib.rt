@@ -16,3 +16,4 @@ mod totals;
 pub use players::Player;
 pub use runs::{Played, play_set, play_workload};
 pub use seats::{Seats, seat_all};
+pub use totals::NO_COUNTS;

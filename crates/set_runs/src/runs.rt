@@ -1,7 +1,7 @@
 // A whole run.
 ghost use Rattle.std.specs.Prelude.{◌≡◌, ◌≤◌, [], length, vec_capacity, IfOk};
 ghost use Rattle.set_api.specs.Callers.{AreFreshCallers};
-ghost use Rattle.set_runs.specs.Runs.{AreAtStart, IsSetRun};
+ghost use Rattle.set_runs.specs.Runs.{AreAtStart, IsSetRun, items_of};
 
 use crate::phases::play_phases;
 use crate::seats::{Seats, leave_all, seat_all};
@@ -39,7 +39,7 @@ pub fn play_workload<
     requires start { AreAtStart S.has set S.view (S.setup set) S.cover.first workload.now.lists seats.players.items }
     requires callers { (seats.callers.items ≡ []) × (length seats.players.items ≤ vec_capacity seats.callers) }
     requires replies { (seats.replies.items ≡ []) × (length seats.players.items ≤ vec_capacity seats.replies) }
-    ensures { IsSetRun S.facts S.cover S.steps budget (S.setup set) workload.now.lists result.replies.items result.counts result.closed }
+    ensures { IsSetRun S.facts S.cover S.steps budget (S.setup set) workload.now.lists (items_of result.replies.items) result.counts result.closed }
 {
     let Seats {
         mut players,
@@ -75,7 +75,7 @@ pub fn play_set<
 ) -> Result<Played, OutOfMemory>
     requires count { (S.setup set).callers ≡ length workload.now.lists }
     requires callers { AreFreshCallers (S.has set) S.view (S.setup set) S.cover.first callers.items }
-    ensures { IfOk result (λ played. IsSetRun S.facts S.cover S.steps budget (S.setup set) workload.now.lists played.replies.items played.counts played.closed) }
+    ensures { IfOk result (λ played. IsSetRun S.facts S.cover S.steps budget (S.setup set) workload.now.lists (items_of played.replies.items) played.counts played.closed) }
 {
     let seats = seat_all(alloc, workload, callers)?;
     Ok(play_workload(rt, gate, set, workload, budget, seats))

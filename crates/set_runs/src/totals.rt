@@ -8,8 +8,8 @@ use crate::players::Player;
 use set_api::ConcurrentSet;
 use set_model::Counts;
 
-/// No move of any caller.
-const NO_COUNTS: Counts = Counts {
+/// The counts where no caller moved a record.
+pub const NO_COUNTS: Counts = Counts {
     drawn: 0,
     reused: 0,
     retired: 0,
