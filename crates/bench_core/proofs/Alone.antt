@@ -1,16 +1,11 @@
 -- Where callers share no key, each is told what it would be told alone.
-use Rattle.std.proofs.Common.{◌≡◌, ◌≢◌, ℕ, zero, suc, ◌+◌, ◌%◌, ◌<◌, ◌≤◌, inl, inr, Option, Bool, true, false, not, length, ◌||◌, ◌&&◌, eqb, Some, List, [], ◌∷◌, ◌++◌, map, slice_get, slice_index_or, refl, sym, ap, ◌∙◌, subst, ne_eqb, append-nil, add-one, arith}
+use Rattle.std.proofs.Common.{◌≡◌, ◌≢◌, ℕ, zero, suc, ◌+◌, ◌%◌, ◌<◌, ◌≤◌, inl, inr, Option, Bool, true, false, ◌||◌, Some, List, [], ◌∷◌, ◌++◌, map, slice_get, slice_index_or, refl, sym, ap, ◌∙◌, subst, ne_eqb, append-nil, add-one, arith}
 use Rattle.std.proofs.lemmas.Bool.{true≢false}
 use Rattle.std.proofs.lemmas.Bool.Decides.{eqb_tells}
-use Rattle.std.proofs.lemmas.List.Elements.{All-from_recursion}
 use Rattle.std.specs.List.{AllByRecursion}
 use Rattle.set_model.specs.declared.calls.Call.{Call}
-use Rattle.set_model.specs.declared.calls.Call.TheVariants.{Insert, Remove, Search}
-use Rattle.set_model.specs.declared.calls.Reply.{Reply}
-use Rattle.set_model.specs.declared.calls.Reply.TheVariants.{Yes, No, Full}
 use Rattle.set_model.specs.Keys.{Keys, contains, empty}
 use Rattle.set_model.specs.Machine.{key_of, keys_after, keys_after_all, reply_of, reply_of_answer, replies_of}
-use Rattle.set_model.proofs.KeySets.{contains-insert, contains-remove}
 use Rattle.workload_gen.specs.declared.plan.GenPlan.{GenPlan}
 use Rattle.workload_gen.specs.Generated.{caller_calls, callers_from, generated}
 use Rattle.workload_gen.proofs.Lawful.{no_phase_lines}
@@ -25,55 +20,36 @@ use Rattle.set_model.specs.declared.names.ReclaimerName.{ReclaimerName}
 use Rattle.set_model.specs.declared.names.ReclaimerName.TheVariants.{Nothing, Debra, Hazard, Ibr}
 use Rattle.set_model.specs.declared.names.SetName.{SetName}
 use Rattle.set_model.specs.declared.names.SetName.TheVariants.{Plain, Michael, Lazy}
-use Rattle.cover_facts.specs.Keeping.{none}
-use Rattle.list_facts.specs.Michael.{michael}
 use Rattle.paired_replies.specs.Pairs.{calls_of, replies_to}
-use Rattle.record_table.specs.Closing.{closed_books}
 use Rattle.record_table.specs.declared.closing.Closed.{Closed}
 use Rattle.report_text.specs.declared.report.Played.{Played}
 use Rattle.report_text.specs.declared.report.Report.{Report}
+use Rattle.run_facts.proofs.Alone.{Agree, agree_after, left_alone, same_answer}
 use Rattle.bench_core.specs.declared.ending.Run.{Run}
-use Rattle.run_facts.proofs.GeneratedRuns.{calls_joined, generated_alone}
+use Rattle.run_facts.proofs.GeneratedRuns.{calls_joined, generated_unshared}
+use Rattle.run_facts.proofs.SetRuns.{run_alone}
 use Rattle.run_facts.specs.Unshared.{NoneIsFull}
 use Rattle.bench_core.specs.Ending.{IsMade, IsPlayed, IsRun, any_full, has_full}
 use Rattle.bench_core.specs.Settings.{played_as}
 use Rattle.bench_core.specs.Tables.{IsHashRun}
+use Rattle.bench_core.proofs.NoneFull.{none_is_full}
 use Rattle.bench_core.specs.Plays.{AreAlone, IsPlainRun, pieces_in, order_of, told_to}
 
 -- the keys of all these calls are such
 abbrev Name : (ℕ → Type 0) → List Call → Type 0
 Name P calls = AllByRecursion (λ call. P (key_of call)) calls
 
--- two sets have the same of these keys
-abbrev Agree : (ℕ → Type 0) → Keys → Keys → Type 0
-Agree P s t = (key : ℕ) → P key → contains s key ≡ contains t key
-
-agree-after : (P : ℕ → Type 0) (call : Call) (s t : Keys) → Agree P s t → Agree P (keys_after call s) (keys_after call t)
-agree-after P (Insert added) s t same = λ key own. contains-insert s added key ∙ ap (λ b. eqb key added || b) (same key own) ∙ sym (contains-insert t added key)
-agree-after P (Remove gone) s t same = λ key own. contains-remove s gone key ∙ ap (λ b. not (eqb key gone) && b) (same key own) ∙ sym (contains-remove t gone key)
-agree-after P (Search key) s t same = same
-
-same_reply : (call : Call) (s t : Keys) → contains s (key_of call) ≡ contains t (key_of call) → reply_of call s ≡ reply_of call t
-same_reply (Insert key) s t same = ap (λ b. reply_of_answer (not b)) same
-same_reply (Remove key) s t same = ap reply_of_answer same
-same_reply (Search key) s t same = ap reply_of_answer same
-
 -- calls on such keys are told the same
 same_replies : (P : ℕ → Type 0) (calls : List Call) (s t : Keys) → Name P calls → Agree P s t → replies_of calls s ≡ replies_of calls t
 same_replies P [] s t names same = refl
 same_replies P (call ∷ calls) s t names same =
-    ap (λ reply. reply ∷ replies_of calls (keys_after call s)) (same_reply call s t (same (key_of call) names.0))
-    ∙ ap (λ replies. reply_of call t ∷ replies) (same_replies P calls (keys_after call s) (keys_after call t) names.1 (agree-after P call s t same))
-
-untouched-once : (key : ℕ) (call : Call) (keys : Keys) → key ≢ key_of call → contains (keys_after call keys) key ≡ contains keys key
-untouched-once key (Insert added) keys other = contains-insert keys added key ∙ ap (λ b. b || contains keys key) (ne_eqb key added other)
-untouched-once key (Remove gone) keys other = contains-remove keys gone key ∙ ap (λ b. not b && contains keys key) (ne_eqb key gone other)
-untouched-once key (Search wanted) keys other = refl
+    ap (λ answer. reply_of_answer answer ∷ replies_of calls (keys_after call s)) (same_answer call s t (same (key_of call) names.0))
+    ∙ ap (λ replies. reply_of call t ∷ replies) (same_replies P calls (keys_after call s) (keys_after call t) names.1 (agree_after P call s t same))
 
 -- calls on other keys leave a key as it was
 untouched : (key : ℕ) (calls : List Call) (keys : Keys) → Name (λ other. key ≢ other) calls → contains (keys_after_all calls keys) key ≡ contains keys key
 untouched key [] keys names = refl
-untouched key (call ∷ calls) keys names = untouched key calls (keys_after call keys) names.1 ∙ untouched-once key call keys names.0
+untouched key (call ∷ calls) keys names = untouched key calls (keys_after call keys) names.1 ∙ left_alone key call keys names.0
 
 -- each caller's calls in one phase
 abbrev one_phase : List (List Call) → List (List (List Call))
@@ -145,17 +121,9 @@ right_false true b is = absurd (true≢false is)
 right_false false b is = is
 
 -- where no reply is full, none of a caller's is
-own_none : (replies : List Reply) → any_full replies ≡ false → NoneIsFull replies
-own_none replies no_full = All-from_recursion (λ reply. reply ≢ Full) replies (each replies no_full) where
-  each : (replies : List Reply) → any_full replies ≡ false → AllByRecursion (λ reply. reply ≢ Full) replies
-  each [] no_full = tt
-  each (Yes ∷ replies) no_full = ((λ same. cc), each replies no_full)
-  each (No ∷ replies) no_full = ((λ same. cc), each replies no_full)
-  each (Full ∷ replies) no_full = absurd (true≢false no_full)
-
 none_full : (callers : List Played) → has_full callers ≡ false → (caller : ℕ) (one : Played) → slice_get callers caller ≡ Some one → NoneIsFull one.replies
 none_full [] no_full caller one there = absurd (none_is one there)
-none_full (played ∷ callers) no_full zero one there = own_none one.replies (ap (λ (p : Played). any_full p.replies) (sym (some_is played one there)) ∙ left_false (any_full played.replies) (has_full callers) no_full)
+none_full (played ∷ callers) no_full zero one there = none_is_full one.replies (ap (λ (p : Played). any_full p.replies) (sym (some_is played one there)) ∙ left_false (any_full played.replies) (has_full callers) no_full)
 none_full (played ∷ callers) no_full (suc caller) one there = none_full callers (right_false (any_full played.replies) (has_full callers) no_full) caller one there
 
 -- a trial on a hash table
@@ -165,9 +133,8 @@ hash_alone sizes unshared plan is report closed chosen run calls no_full = λ ca
     let own : slice_get (replies_to report.callers) caller ≡ Some one.replies = slice_get-map (λ (p : Played). p.replies) report.callers caller ∙ ap (option_map (λ (p : Played). p.replies)) there in
     let called : slice_get (joined plan.lists) caller ≡ Some one.calls =
         ap (λ all. slice_get all caller) (sym calls) ∙ slice_get-map (λ (p : Played). p.calls) report.callers caller ∙ ap (option_map (λ (p : Played). p.calls)) there in
-    let same : length (replies_to report.callers) ≡ length (closed_books closed) = run.played.all_replies ∙ sym run.played.all_books in
-    generated_alone sizes unshared plan is michael none closed run.played.fits (λ helped. helped) (replies_to report.callers) same run.played.each caller one.replies own
-    (none_full report.callers no_full caller one there) ∙ ap (λ calls. replies_of calls empty) (calls_joined plan.lists caller one.calls called)
+    run_alone run.played (λ helped. helped) (generated_unshared sizes unshared plan is) caller one.replies own (none_full report.callers no_full caller one there)
+    ∙ ap (λ calls. replies_of calls empty) (calls_joined plan.lists caller one.calls called)
 
 -- a trial on a set that is played
 played_alone : (set : SetName) (reclaimer : ReclaimerName) (chosen : PlayWords) (sizes : GenPlan) → sizes.shared ≡ false → (plan : Plan) → plan ≡ plan_of (generated sizes) → (run : Run)

@@ -9,3 +9,4 @@ pub mod Results
 pub mod Telling
 pub mod ToldCallers
 pub mod Verdicts
+pub mod NoneFull

@@ -24,13 +24,13 @@ use Rattle.record_rule.proofs.Lists.{below_at, at_below, get_at, one_at}
 use Rattle.key_sums.proofs.TallyBalance.{of_keys, tells_keys}
 
 -- an answer goes by whether the call's key is there
-same_answer : (call : Call) (s t : Keys) → contains s (key_of call) ≡ contains t (key_of call) → answer_of call s ≡ answer_of call t
+pub same_answer : (call : Call) (s t : Keys) → contains s (key_of call) ≡ contains t (key_of call) → answer_of call s ≡ answer_of call t
 same_answer (Insert key) s t same = ap not same
 same_answer (Remove key) s t same = same
 same_answer (Search key) s t same = same
 
 -- a call on another key leaves a key as it was
-left_alone : (key : ℕ) (call : Call) (keys : Keys) → key ≢ key_of call → contains (keys_after call keys) key ≡ contains keys key
+pub left_alone : (key : ℕ) (call : Call) (keys : Keys) → key ≢ key_of call → contains (keys_after call keys) key ≡ contains keys key
 left_alone key (Insert added) keys other = contains-insert keys added key ∙ ap (λ b. b || contains keys key) (ne_eqb key added other)
 left_alone key (Remove gone) keys other = contains-remove keys gone key ∙ ap (λ b. not b && contains keys key) (ne_eqb key gone other)
 left_alone key (Search wanted) keys other = refl
@@ -84,7 +84,7 @@ module _ (P : ℕ → Type 0) where
   abbrev pub Agree : Keys → Keys → Type 0
   Agree s t = (key : ℕ) → P key → contains s key ≡ contains t key
 
-  agree_after : (call : Call) (s t : Keys) → Agree s t → Agree (keys_after call s) (keys_after call t)
+  pub agree_after : (call : Call) (s t : Keys) → Agree s t → Agree (keys_after call s) (keys_after call t)
   agree_after (Insert added) s t same = λ key own. contains-insert s added key ∙ ap (λ b. eqb key added || b) (same key own) ∙ sym (contains-insert t added key)
   agree_after (Remove gone) s t same = λ key own. contains-remove s gone key ∙ ap (λ b. not (eqb key gone) && b) (same key own) ∙ sym (contains-remove t gone key)
   agree_after (Search key) s t same = same

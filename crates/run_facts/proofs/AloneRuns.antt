@@ -37,7 +37,7 @@ use Rattle.run_facts.proofs.Answers.{phases_add, book_has_replies}
 pub got_at : {X : Type 0} (xs : List X) (i : ℕ) (x : X) → slice_get xs i ≡ Some x → At xs i x
 got_at xs i x is = let e = at_below xs i (slice_get_within xs i x is) in e.1 ∙ ap some (sym (get_at xs i e.0 x e.1) ∙ get_or_from_slice_get xs i x x is)
 
-at_got : {X : Type 0} (xs : List X) (i : ℕ) (x : X) → At xs i x → slice_get xs i ≡ Some x
+pub at_got : {X : Type 0} (xs : List X) (i : ℕ) (x : X) → At xs i x → slice_get xs i ≡ Some x
 at_got xs i x at = slice_get-get_or xs i x (below_at xs i x at) ∙ ap Some (get_at xs i x x at)
 
 -- an answered call is one of the calls

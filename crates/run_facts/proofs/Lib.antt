@@ -4,3 +4,4 @@ pub mod Phased
 pub mod Fullness
 pub mod AloneRuns
 pub mod GeneratedRuns
+pub mod SetRuns

@@ -22,7 +22,7 @@ with_replies (call ∷ calls) (reply ∷ replies) = (call, reply) ∷ with_repli
 abbrev pub AreBooksReplies : List (List Call) → List Reply → Book → Type 0
 AreBooksReplies phases replies book = answers_in book.answered ≡ answered_among (with_replies (calls_of_all phases) replies)
 
--- Each caller played its calls of these workload lists, with its replies, to its book: all by number
+-- Each caller's play of its own of these calls, with its replies, leads to its book; callers, replies and books go by number
 abbrev pub ArePlays : (Call → ℕ → Answer → Book → Book → Type 0) → ℕ → Setup → Guard → List (List (List Call)) → List (List Reply) → List ℕ → List Book → Type 0
 ArePlays steps budget setup first lists replies bounds books = (i : ℕ) (own : List Reply) (book : Book) → slice_get replies i ≡ Some own → slice_get books i ≡ Some book
     → IsCallersPlay steps budget setup first i (phases_of lists i) own bounds book
