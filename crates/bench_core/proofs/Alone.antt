@@ -1,5 +1,5 @@
 -- Where callers share no key, each is told what it would be told alone.
-use Rattle.std.proofs.Common.{◌≡◌, ◌≢◌, ℕ, zero, suc, ◌+◌, ◌%◌, ◌<◌, ◌≤◌, inl, inr, Option, Bool, true, false, ◌||◌, Some, List, [], ◌∷◌, ◌++◌, map, slice_get, slice_index_or, refl, sym, ap, ◌∙◌, subst, ne_eqb, append-nil, add-one, arith}
+use Rattle.std.proofs.Common.{◌≡◌, ◌≢◌, ℕ, zero, suc, ◌+◌, ◌%◌, ◌<◌, ◌≤◌, inl, inr, Bool, true, false, ◌||◌, Some, List, [], ◌∷◌, ◌++◌, map, slice_get, slice_index_or, refl, sym, ap, ◌∙◌, subst, ne_eqb, append-nil, add-one, arith}
 use Rattle.std.proofs.lemmas.Bool.{true≢false}
 use Rattle.std.proofs.lemmas.Bool.Decides.{eqb_tells}
 use Rattle.std.specs.List.{AllByRecursion}

@@ -1,11 +1,10 @@
 -- Which verdict a status tells.
-use Rattle.std.proofs.Common.{◌≡◌, ◌⊎◌, inl, inr, refl, arith}
+use Rattle.std.proofs.Common.{◌≡◌, inl, inr, refl, arith}
 use Rattle.lawful_pairs.specs.declared.Unlawful.{Unlawful}
 use Rattle.report_text.specs.declared.refusal.WorkloadRefusal.{WorkloadRefusal}
-use Rattle.bench_core.specs.declared.ending.Run.{Run}
 use Rattle.bench_core.specs.declared.ending.Verdict.{Verdict}
 use Rattle.bench_core.specs.declared.ending.Verdict.TheVariants as verdict
-use Rattle.bench_core.specs.Ending.{status_of, status_of_run}
+use Rattle.bench_core.specs.Ending.{status_of}
 use Rattle.bench_core.proofs.Telling.{status_of_run-is}
 
 pub is_WordsRefused : (found : Verdict) → status_of found ≡ 2 → found ≡ verdict.WordsRefused

@@ -1,26 +1,19 @@
 -- What the clauses of the whole program say of words, of what was read, and of statuses.
-use Rattle.std.specs.Prelude.{◌≡◌, ◌≢◌, ℕ, ◌⊎◌, List, [], Option, Some, None}
+use Rattle.std.specs.Prelude.{◌≡◌, ℕ, ◌⊎◌, List, Option, Some}
 use Rattle.command_words.specs.Commands.{IsCommand}
 use Rattle.command_words.specs.declared.command.Command.{Command}
 use Rattle.command_words.specs.declared.command.Command.TheVariants as command
 use Rattle.command_words.specs.declared.command.PlayWords.{PlayWords}
 use Rattle.command_words.specs.declared.command.TrialWords.{TrialWords}
-use Rattle.command_words.specs.declared.command.Workloads.{Workloads}
 use Rattle.lawful_pairs.specs.declared.Unlawful.{Unlawful}
-use Rattle.report_text.specs.LineTexts.{checked_text, refusal_text}
 use Rattle.report_text.specs.ReportText.{report_text}
 use Rattle.report_text.specs.SummaryText.{summary_text}
-use Rattle.report_text.specs.Writing.{Wrote, WrotePart}
-use Rattle.report_text.specs.declared.refusal.Refusal.{Refusal}
-use Rattle.report_text.specs.declared.refusal.Refusal.TheVariants as refusal
 use Rattle.report_text.specs.declared.refusal.WorkloadRefusal.{WorkloadRefusal}
 use Rattle.workload_text.specs.Limits.{Plan}
-use Rattle.workload_text.specs.Text.{IsTextOf, text_of}
-use Rattle.bench_core.specs.declared.ending.Ended.{Ended}
+use Rattle.workload_text.specs.Text.{IsTextOf}
 use Rattle.bench_core.specs.declared.ending.Run.{Run}
-use Rattle.bench_core.specs.Ending.{GaveNoWorkload, GaveWorkload, IsAllowed, IsMade, IsRun, NamesUnlawful, Reads, has_full}
+use Rattle.bench_core.specs.Ending.{GaveNoWorkload, GaveWorkload, IsAllowed, IsMade, IsRun, NamesUnlawful, Reads}
 use Rattle.bench_core.specs.Settings.{played_as}
-use Rattle.bench_core.specs.Sizes.{sizes_of}
 
 -- the words name a command that reads a workload
 abbrev pub AreRead : List (List ℕ) → Type 0

@@ -1,5 +1,5 @@
 -- Which settings and plans lawful words give.
-use Rattle.std.specs.Prelude.{◌≡◌, ℕ, ◌≤◌, true, Option, Some, None, IfSome}
+use Rattle.std.specs.Prelude.{◌≡◌, ◌≤◌, true, None, IfSome}
 use Rattle.command_words.specs.Commands.{IsKnownPair, is_built, is_built_allocator}
 use Rattle.command_words.specs.declared.command.PlayWords.{PlayWords}
 use Rattle.command_words.specs.declared.command.TrialWords.{TrialWords}

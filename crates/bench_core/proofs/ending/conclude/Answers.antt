@@ -1,4 +1,4 @@
-use Rattle.std.proofs.Common.{◌≡◌, ◌≢◌, arith}
+use Rattle.std.proofs.Common.{arith}
 use Rattle.bench_core.proofs.Telling.{Tells-printed, status_is_no_fault}
 use Rattle.bench_core.proofs.ending.conclude.Goals as goal
 

@@ -1,4 +1,4 @@
-use Rattle.std.proofs.Common.{◌≡◌, ◌+◌, ◌*◌, ℕ, List, length, Some, refl, sym, ap, ◌∙◌, subst}
+use Rattle.std.proofs.Common.{◌+◌, ◌*◌, length, Some, refl, sym, ◌∙◌, subst}
 use Rattle.cover_facts.specs.Keeping.{none}
 use Rattle.hash_runs.specs.HashRuns.{IsNoneRun, none_manner}
 use Rattle.list_facts.specs.Michael.{michael}
