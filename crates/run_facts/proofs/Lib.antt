@@ -5,3 +5,4 @@ pub mod Fullness
 pub mod AloneRuns
 pub mod GeneratedRuns
 pub mod SetRuns
+pub mod Unreclaimed

@@ -2,3 +2,4 @@ pub mod Replies
 pub mod Phased
 pub mod Fullness
 pub mod Unshared
+pub mod Unreclaimed
