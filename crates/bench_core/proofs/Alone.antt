@@ -16,10 +16,6 @@ use Rattle.workload_text.proofs.Held.{none_is, some_is}
 use Rattle.workload_text.specs.Limits.{Plan, joined, plan_of}
 use Rattle.command_words.specs.declared.command.PlayWords.{PlayWords}
 use Rattle.command_words.specs.declared.command.TrialWords.{TrialWords}
-use Rattle.set_model.specs.declared.names.ReclaimerName.{ReclaimerName}
-use Rattle.set_model.specs.declared.names.ReclaimerName.TheVariants.{Nothing, Debra, Hazard, Ibr}
-use Rattle.set_model.specs.declared.names.SetName.{SetName}
-use Rattle.set_model.specs.declared.names.SetName.TheVariants.{Plain, Michael, Lazy}
 use Rattle.paired_replies.specs.Pairs.{calls_of, replies_to}
 use Rattle.record_table.specs.declared.closing.Closed.{Closed}
 use Rattle.report_text.specs.declared.report.Played.{Played}
@@ -29,9 +25,10 @@ use Rattle.bench_core.specs.declared.ending.Run.{Run}
 use Rattle.run_facts.proofs.GeneratedRuns.{calls_joined, generated_unshared}
 use Rattle.run_facts.proofs.SetRuns.{run_alone}
 use Rattle.run_facts.specs.Unshared.{NoneIsFull}
-use Rattle.bench_core.specs.Ending.{IsMade, IsPlayed, IsRun, any_full, has_full}
+use Rattle.bench_core.specs.Ending.{IsMade, IsRun, any_full, has_full}
 use Rattle.bench_core.specs.Settings.{played_as}
 use Rattle.bench_core.specs.Tables.{IsHashRun}
+use Rattle.bench_core.proofs.PlayedPairs.{by_pair}
 use Rattle.bench_core.proofs.NoneFull.{none_is_full}
 use Rattle.bench_core.specs.Plays.{AreAlone, IsPlainRun, pieces_in, order_of, told_to}
 
@@ -132,27 +129,15 @@ hash_alone : (sizes : GenPlan) → sizes.shared ≡ false → (plan : Plan) → 
 hash_alone sizes unshared plan is report closed chosen run calls no_full = λ caller one there.
     let own : slice_get (replies_to report.callers) caller ≡ Some one.replies = slice_get-map (λ (p : Played). p.replies) report.callers caller ∙ ap (option_map (λ (p : Played). p.replies)) there in
     let called : slice_get (joined plan.lists) caller ≡ Some one.calls =
-        ap (λ all. slice_get all caller) (sym calls) ∙ slice_get-map (λ (p : Played). p.calls) report.callers caller ∙ ap (option_map (λ (p : Played). p.calls)) there in
+    ap (λ all. slice_get all caller) (sym calls) ∙ slice_get-map (λ (p : Played). p.calls) report.callers caller ∙ ap (option_map (λ (p : Played). p.calls)) there in
     run_alone run.played (λ helped. helped) (generated_unshared sizes unshared plan is) caller one.replies own (none_full report.callers no_full caller one there)
     ∙ ap (λ calls. replies_of calls empty) (calls_joined plan.lists caller one.calls called)
 
 -- a trial on a set that is played
-played_alone : (set : SetName) (reclaimer : ReclaimerName) (chosen : PlayWords) (sizes : GenPlan) → sizes.shared ≡ false → (plan : Plan) → plan ≡ plan_of (generated sizes) → (run : Run)
-    → IsPlayed set reclaimer chosen plan run → calls_of run.report.callers ≡ joined plan.lists → has_full run.report.callers ≡ false → AreAlone run.report.callers
-played_alone Plain Nothing chosen sizes unshared plan is run played calls no_full = plain_alone sizes unshared plan is run.report played.1
-played_alone Michael Nothing chosen sizes unshared plan is run played calls no_full = hash_alone sizes unshared plan is run.report played.0 chosen played.2 calls no_full
-played_alone Plain Debra chosen sizes unshared plan is run played calls no_full = absurd played
-played_alone Plain Hazard chosen sizes unshared plan is run played calls no_full = absurd played
-played_alone Plain Ibr chosen sizes unshared plan is run played calls no_full = absurd played
-played_alone Michael Debra chosen sizes unshared plan is run played calls no_full = absurd played
-played_alone Michael Hazard chosen sizes unshared plan is run played calls no_full = absurd played
-played_alone Michael Ibr chosen sizes unshared plan is run played calls no_full = absurd played
-played_alone Lazy Nothing chosen sizes unshared plan is run played calls no_full = absurd played
-played_alone Lazy Debra chosen sizes unshared plan is run played calls no_full = absurd played
-played_alone Lazy Hazard chosen sizes unshared plan is run played calls no_full = absurd played
-played_alone Lazy Ibr chosen sizes unshared plan is run played calls no_full = absurd played
-
 pub trial_alone : (chosen : TrialWords) → chosen.workload.shared ≡ false → (plan : Plan) → IsMade chosen.workload plan → (run : Run) → IsRun (played_as chosen) plan run
     → has_full run.report.callers ≡ false → AreAlone run.report.callers
 trial_alone chosen unshared plan made run r no_full =
-    played_alone chosen.set chosen.reclaimer (played_as chosen) made.0 (made.1.shared ∙ unshared) plan made.2 run r.played r.calls no_full
+    let own : made.0.shared ≡ false = made.1.shared ∙ unshared in
+    by_pair (AreAlone run.report.callers) chosen.set chosen.reclaimer (played_as chosen) plan run r.played
+    (λ plain none told. plain_alone made.0 own plan made.2 run.report told)
+    (λ hash closed there told. hash_alone made.0 own plan made.2 run.report closed (played_as chosen) told r.calls no_full)

@@ -11,8 +11,11 @@ use Rattle.command_words.specs.declared.command.TrialWords.{TrialWords}
 use Rattle.command_words.specs.declared.command.Workloads.{Workloads}
 use Rattle.lawful_pairs.specs.Table.{is_lawful}
 use Rattle.lawful_pairs.specs.declared.Unlawful.{Unlawful}
+use Rattle.list_facts.specs.Michael.{michael}
 use Rattle.outside.specs.Bytes.{with_front}
 use Rattle.outside.specs.Faults.{Rose, one_more}
+use Rattle.paired_replies.specs.Pairs.{calls_of}
+use Rattle.record_table.specs.declared.closing.Closed.{Closed}
 use Rattle.report_text.proofs.WritingLemmas.{one_more-rises}
 use Rattle.report_text.specs.LineTexts.{checked_text, refusal_text}
 use Rattle.report_text.specs.ReportText.{report_text}
@@ -20,12 +23,17 @@ use Rattle.report_text.specs.SummaryText.{summary_text}
 use Rattle.report_text.specs.Writing.{Wrote, WrotePart}
 use Rattle.report_text.specs.declared.refusal.Refusal.TheVariants as refusal
 use Rattle.report_text.specs.declared.refusal.WorkloadRefusal.{WorkloadRefusal}
+use Rattle.run_facts.specs.Unreclaimed.{IsUnreclaimed}
+use Rattle.set_model.specs.declared.calls.Call.{Call}
 use Rattle.set_model.specs.declared.names.AllocatorName.TheVariants.{Bump}
+use Rattle.set_model.specs.declared.names.ReclaimerName.TheVariants.{Nothing}
 use Rattle.set_model.specs.declared.names.ReclaimerName.{ReclaimerName}
 use Rattle.set_model.specs.declared.names.SetName.{SetName}
 use Rattle.set_model.specs.declared.names.SetName.TheVariants.{Plain}
+use Rattle.table_reports.specs.History.{IsOneHistory}
+use Rattle.table_reports.specs.Reports.{TellsKeys}
 use Rattle.workload_text.proofs.TextLength.{length-text_of-le}
-use Rattle.workload_text.specs.Limits.{Plan}
+use Rattle.workload_text.specs.Limits.{Plan, joined}
 use Rattle.workload_text.specs.Text.{text_of}
 use Rattle.bench_core.specs.declared.ending.Ended.{Ended}
 use Rattle.bench_core.specs.declared.ending.Run.{Run}
@@ -38,8 +46,10 @@ use Rattle.bench_core.specs.Sizes.{sizes_of}
 use Rattle.bench_core.specs.Ending.{AreNoCommand, Counts, Ends, Finds, FindsIn, FindsMade, GaveNoWorkload, GaveWorkload, HasParts, HasText, IsAllowed, IsMade, NamesUnlawful, Reads, Tells, has_full, status_with, output_of, run_of, status_of, status_of_run}
 use Rattle.bench_core.specs.Plays.{AreAlone}
 use Rattle.bench_core.specs.Settings.{played_as}
+use Rattle.bench_core.specs.Tables.{IsHashRun}
 use Rattle.bench_core.proofs.Alone.{trial_alone}
 use Rattle.bench_core.proofs.NeverFull.{run-not_full}
+use Rattle.bench_core.proofs.PlayedPairs.{frees_none, has_table, on_table}
 use Rattle.bench_core.proofs.Telling.{status_of_run-is}
 use Rattle.bench_core.proofs.Verdicts.{is_WordsRefused, is_Unlawful, is_ReadFault, is_TooLong, is_WorkloadRefused, is_OutOfMemory}
 
@@ -311,6 +321,31 @@ module _ {S K : Type 0} {left : S → Option (List ℕ)} {source_faults : S → 
   run r is =
       let there = run_found e.found r (sym e.concludes.run ∙ is) e.finds in
       (done_or_fault 0 (subst IsDone (sym there.0) (status_of_run-is r)), output_of e.found, there.1, λ good. wrote e.found refl good, λ bad. (tells.part bad).1)
+
+  -- a run that has a table was on a hash table
+  table_run : (r : Run) (closed : Closed) → ended.run ≡ Some r → r.closed ≡ Some closed → (chosen : PlayWords) × (lists : List (List (List Call))) × (calls_of r.report.callers ≡ joined lists) × IsHashRun chosen lists r.report closed
+  table_run r closed is there = elim (run r is).2 [
+    | inl play ↦ (play.chosen, play.plan.lists, play.played.calls, on_table play.chosen.set play.chosen.reclaimer play.chosen play.plan r play.played.played closed there)
+    | inr trial ↦ let words = played_as trial.chosen in (words, trial.plan.lists, trial.played.calls, on_table words.set words.reclaimer words trial.plan r trial.played.played closed there)
+  ]
+
+  pub one_history : (r : Run) (closed : Closed) → ended.run ≡ Some r → r.closed ≡ Some closed → (lists : List (List (List Call))) × (calls_of r.report.callers ≡ joined lists) × IsOneHistory michael lists r.report.callers closed
+  one_history r closed is there = let t = table_run r closed is there in (t.1, t.2, t.3.history)
+
+  pub keys : (r : Run) (closed : Closed) → ended.run ≡ Some r → r.closed ≡ Some closed → TellsKeys closed r.report
+  keys r closed is there = (table_run r closed is there).3.keys
+
+  pub unreclaimed : (r : Run) → ended.run ≡ Some r → r.report.reclaimer ≡ Nothing → IsUnreclaimed r.report.counts
+  unreclaimed r is nothing = elim (run r is).2 [
+    | inl play ↦ frees_none play.chosen.set play.chosen.reclaimer play.chosen play.plan r play.played.played
+    | inr trial ↦ let words = played_as trial.chosen in frees_none words.set words.reclaimer words trial.plan r trial.played.played
+  ]
+
+  pub closes : (r : Run) → ended.run ≡ Some r → (r.report.set ≡ Plain → r.closed ≡ None) × (r.closed ≡ None → r.report.set ≡ Plain)
+  closes r is = elim (run r is).2 [
+    | inl play ↦ has_table play.chosen.set play.chosen.reclaimer play.chosen play.plan r play.played.played play.played.set_is
+    | inr trial ↦ let words = played_as trial.chosen in has_table words.set words.reclaimer words trial.plan r trial.played.played trial.played.set_is
+  ]
 
   pub never_full : (r : Run) → ended.run ≡ Some r → r.report.set ≡ Plain → has_full r.report.callers ≡ false
   never_full r is plain = elim (run r is).2 [

@@ -1,12 +1,13 @@
 pub mod Alone
 pub mod Clauses
 pub mod NeverFull
+pub mod NoneFull
 pub mod PlainRuns
 pub mod PlayOrder
+pub mod PlayedPairs
 pub mod ReadingLemmas
 pub mod ReportedCallers
 pub mod Results
 pub mod Telling
 pub mod ToldCallers
 pub mod Verdicts
-pub mod NoneFull

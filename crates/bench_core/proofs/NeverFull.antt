@@ -5,9 +5,8 @@ use Rattle.set_model.specs.declared.calls.Call.{Call}
 use Rattle.set_model.specs.declared.calls.Reply.{Reply}
 use Rattle.set_model.specs.declared.calls.Reply.TheVariants.{Yes, No, Full}
 use Rattle.set_model.specs.declared.names.ReclaimerName.{ReclaimerName}
-use Rattle.set_model.specs.declared.names.ReclaimerName.TheVariants.{Nothing, Debra, Hazard, Ibr}
 use Rattle.set_model.specs.declared.names.SetName.{SetName}
-use Rattle.set_model.specs.declared.names.SetName.TheVariants.{Plain, Michael, Lazy}
+use Rattle.set_model.specs.declared.names.SetName.TheVariants.{Plain, Michael}
 use Rattle.set_model.specs.Keys.{Keys, empty}
 use Rattle.set_model.specs.Machine.{answer_of, keys_after, keys_after_all, reply_of_answer, replies_of}
 use Rattle.command_words.specs.declared.command.PlayWords.{PlayWords}
@@ -16,6 +15,7 @@ use Rattle.report_text.specs.declared.report.Report.{Report}
 use Rattle.workload_text.specs.Limits.{Plan}
 use Rattle.bench_core.specs.declared.ending.Run.{Run}
 use Rattle.bench_core.specs.Ending.{IsPlayed, any_full, has_full}
+use Rattle.bench_core.proofs.PlayedPairs.{by_pair}
 use Rattle.bench_core.specs.Plays.{IsPlainRun, Piece, order_of, told_to}
 
 any_full-append : (xs ys : List Reply) → any_full xs ≡ false → any_full ys ≡ false → any_full (xs ++ ys) ≡ false
@@ -58,15 +58,6 @@ plain-not_full plan report played =
 -- a set that joins needs that its name isn't the plain set's
 pub run-not_full : (set : SetName) (reclaimer : ReclaimerName) (chosen : PlayWords) (plan : Plan) (run : Run) → IsPlayed set reclaimer chosen plan run → run.report.set ≡ set → run.report.set ≡ Plain
     → has_full run.report.callers ≡ false
-run-not_full Plain Nothing chosen plan run played is plain = plain-not_full plan run.report played.1
-run-not_full Michael Nothing chosen plan run played is plain = absurd (let same : Michael ≡ Plain = sym is ∙ plain in cc)
-run-not_full Plain Debra chosen plan run played is plain = absurd played
-run-not_full Plain Hazard chosen plan run played is plain = absurd played
-run-not_full Plain Ibr chosen plan run played is plain = absurd played
-run-not_full Michael Debra chosen plan run played is plain = absurd played
-run-not_full Michael Hazard chosen plan run played is plain = absurd played
-run-not_full Michael Ibr chosen plan run played is plain = absurd played
-run-not_full Lazy Nothing chosen plan run played is plain = absurd played
-run-not_full Lazy Debra chosen plan run played is plain = absurd played
-run-not_full Lazy Hazard chosen plan run played is plain = absurd played
-run-not_full Lazy Ibr chosen plan run played is plain = absurd played
+run-not_full set reclaimer chosen plan run played is plain = by_pair (has_full run.report.callers ≡ false) set reclaimer chosen plan run played
+    (λ own none told. plain-not_full plan run.report told)
+    (λ hash closed there told. absurd (let differ : Michael ≡ Plain = sym (is ∙ hash) ∙ plain in cc))

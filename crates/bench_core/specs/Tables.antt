@@ -1,15 +1,20 @@
 -- Runs on a table of records: how many records it has, and what such a run reports.
-use Rattle.std.specs.Prelude.{ℕ, ◌+◌, List, sum_by, min, Option, Some, None}
+use Rattle.std.specs.Prelude.{ℕ, ◌+◌, List, length, sum_by, min, Option, Some, None}
 use Rattle.set_model.specs.declared.calls.Call.{Call}
 use Rattle.set_model.specs.declared.names.SetName.{SetName}
 use Rattle.set_model.specs.declared.names.SetName.TheVariants.{Plain, Michael, Lazy}
 use Rattle.set_model.specs.Machine.{insertions_in}
 use Rattle.command_words.specs.declared.command.PlayWords.{PlayWords}
+use Rattle.michael_hash.specs.Pieces.{MakesPiece}
 use Rattle.paired_replies.specs.Pairs.{replies_to}
+use Rattle.record_table.specs.Closing.{closed_books}
 use Rattle.record_table.specs.declared.closing.Closed.{Closed}
 use Rattle.report_text.specs.declared.report.Report.{Report}
-use Rattle.hash_runs.specs.HashRuns.{IsNoneRun}
+use Rattle.cover_facts.specs.Keeping.{none}
+use Rattle.hash_runs.specs.HashRuns.{IsNoneRun, hops_for, none_manner, none_setup}
 use Rattle.list_facts.specs.Michael.{michael}
+use Rattle.run_facts.specs.Fullness.{AreCaused}
+use Rattle.run_facts.specs.Unreclaimed.{IsUnreclaimed}
 use Rattle.workload_text.specs.Limits.{joined}
 use Rattle.table_reports.specs.History.{IsOneHistory}
 use Rattle.table_reports.specs.Reports.{TellsKeys}
@@ -44,3 +49,7 @@ pub record IsHashRun (chosen : PlayWords) (lists : List (List (List Call))) (rep
   pub played : IsNoneRun (records_for chosen lists) chosen.buckets lists (replies_to report.callers) report.counts closed
   pub history : IsOneHistory michael lists report.callers closed
   pub keys : TellsKeys closed report
+  -- a reply `full` has its cause
+  pub caused : AreCaused (MakesPiece none_manner (none_setup (records_for chosen lists) chosen.buckets (length lists))) (hops_for (records_for chosen lists))
+      (none_setup (records_for chosen lists) chosen.buckets (length lists)) none.first lists (replies_to report.callers) played.bounds (closed_books closed)
+  pub unreclaimed : IsUnreclaimed report.counts

@@ -1,18 +1,26 @@
 // The program, from its words and its source to its sink and its status.
-ghost use Rattle.std.specs.Prelude.{◌≡◌, ◌≢◌, ◌↔◌, ◌⊎◌, ℕ, true, List, [], Some, IsSome, false};
+ghost use Rattle.std.specs.Prelude.{◌≡◌, ◌≢◌, ◌↔◌, ◌⊎◌, ℕ, true, List, [], Some, None, IsSome, false};
 ghost use Rattle.command_words.specs.Commands.{IsCommand};
 ghost use Rattle.command_words.specs.Words.{texts_of};
 ghost use Rattle.command_words.specs.declared.command.Command.TheVariants as command;
 ghost use Rattle.command_words.specs.declared.command.TrialWords.{TrialWords};
 ghost use Rattle.command_words.specs.declared.command.Workloads.{Workloads};
 ghost use Rattle.lawful_pairs.specs.declared.Unlawful.{Unlawful};
+ghost use Rattle.list_facts.specs.Michael.{michael};
 ghost use Rattle.outside.specs.Faults.{Rose, one_more};
+ghost use Rattle.paired_replies.specs.Pairs.{calls_of};
+ghost use Rattle.record_table.specs.declared.closing.Closed.{Closed};
 ghost use Rattle.report_text.specs.LineTexts.{checked_text, refusal_text};
 ghost use Rattle.report_text.specs.Writing.{Wrote, WrotePart};
 ghost use Rattle.report_text.specs.declared.refusal.Refusal.TheVariants as refusal;
 ghost use Rattle.report_text.specs.declared.refusal.WorkloadRefusal.{WorkloadRefusal};
+ghost use Rattle.run_facts.specs.Unreclaimed.{IsUnreclaimed};
+ghost use Rattle.set_model.specs.declared.calls.Call.{Call};
+ghost use Rattle.set_model.specs.declared.names.ReclaimerName.TheVariants.{Nothing};
 ghost use Rattle.set_model.specs.declared.names.SetName.TheVariants.{Plain};
-ghost use Rattle.workload_text.specs.Limits.{Plan};
+ghost use Rattle.table_reports.specs.History.{IsOneHistory};
+ghost use Rattle.table_reports.specs.Reports.{TellsKeys};
+ghost use Rattle.workload_text.specs.Limits.{Plan, joined};
 ghost use Rattle.workload_text.specs.Text.{text_of};
 ghost use Rattle.bench_core.specs.Clauses.{AreAllowed, AreNotRead, AreRead, AreUnlawful, ArePlayed, GaveRefused, GaveSomeWorkload, HoldsWorkload, IsDone, IsQuiet, IsRunOf, IsStopped, NamesPair};
 ghost use Rattle.bench_core.specs.Ending.{AreNoCommand, Ends, Finds, GaveNoWorkload, GaveWorkload, IsMade, has_full, output_of, run_of};
@@ -81,6 +89,15 @@ pub fn setbench<T: Threads + Wait + Sync, S: Source, K: Sink, G: Gate + Sync>(
         × (text : List ℕ) × IsRunOf S.left source.old source.new (texts_of words.now) run text
         × (result.status ≢ 7 → Wrote K.got sink.old sink.new text)
         × (result.status ≡ 7 → WrotePart K.got sink.old sink.new text) }
+    // A set with records was played on a table, which the callers closed. The printed replies but `full` are those of its one
+    // legal history, each answered call once, in its caller's order, phase by phase, and each step on a held record found
+    // the generation that its caller had reached. The number of keys and their sum are those of its records.
+    ensures closed { (run : Run) → result.run ≡ Some run → (run.report.set ≡ Plain) ↔ (run.closed ≡ None) }
+    ensures one_history { (run : Run) (closed : Closed) → result.run ≡ Some run → run.closed ≡ Some closed
+        → (lists : List (List (List Call))) × (calls_of run.report.callers ≡ joined lists) × IsOneHistory michael lists run.report.callers closed }
+    ensures keys { (run : Run) (closed : Closed) → result.run ≡ Some run → run.closed ≡ Some closed → TellsKeys closed run.report }
+    ensures unreclaimed { (run : Run) → result.run ≡ Some run → run.report.reclaimer ≡ Nothing → IsUnreclaimed run.report.counts }
+
     // The callers of a trial share no key, so where none is told `full` each is told what it would be told alone.
     ensures alone { (chosen : TrialWords) → IsCommand (texts_of words.now) (command.Trial chosen)
         → (run : Run) → result.run ≡ Some run → has_full run.report.callers ≡ false → AreAlone run.report.callers }

@@ -6,6 +6,7 @@ use Rattle.set_model.specs.declared.calls.Reply.{Reply}
 use Rattle.set_model.specs.declared.names.SetName.TheVariants.{Michael}
 use Rattle.set_model.specs.declared.names.ReclaimerName.TheVariants.{Nothing}
 use Rattle.set_model.specs.declared.names.AllocatorName.TheVariants.{Bump}
+use Rattle.record_memory.specs.declared.books.Setup.{Setup}
 use Rattle.record_table.specs.Made.{setup_with}
 use Rattle.record_table.specs.declared.closing.Closed.{Closed}
 use Rattle.record_pieces.specs.Manners.{Manner}
@@ -21,6 +22,15 @@ use Rattle.set_runs.specs.Runs.{IsSetRun}
 abbrev pub none_manner : Manner
 none_manner = manner Enters Leaves Bears Reaches PutsAway Draws Refuses 0 (λ steps. ⊥)
 
--- A run on a table of so many records and buckets, prepared at generation 1, within the budget of hops that a run gives each call
+-- a table of so many records and buckets for so many callers, prepared at generation 1
+abbrev pub none_setup : ℕ → ℕ → ℕ → Setup
+none_setup records buckets callers = setup_with records buckets callers 1 Michael Nothing Bump
+
+-- how many hops a run on so many records gives each call
+abbrev pub hops_for : ℕ → ℕ
+hops_for records = 2 * records + 64
+
+-- a run on such a table, within this budget of hops
 abbrev pub IsNoneRun : ℕ → ℕ → List (List (List Call)) → List (List Reply) → Counts → Closed → Type 0
-IsNoneRun records buckets lists replies counts closed = IsSetRun michael none (MakesPiece none_manner) (2 * records + 64) (setup_with records buckets (length lists) 1 Michael Nothing Bump) lists replies counts closed
+IsNoneRun records buckets lists replies counts closed =
+    IsSetRun michael none (MakesPiece none_manner) (hops_for records) (none_setup records buckets (length lists)) lists replies counts closed

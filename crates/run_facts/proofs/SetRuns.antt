@@ -17,7 +17,7 @@ use Rattle.set_api.specs.declared.answer.Answer.{Answer}
 use Rattle.set_runs.specs.Playing.{phases_of}
 use Rattle.set_runs.specs.Runs.{IsCallersPlay, IsSetRun}
 use Rattle.run_facts.specs.Replies.{with_replies}
-use Rattle.run_facts.specs.Fullness.{WasFull}
+use Rattle.run_facts.specs.Fullness.{AreCaused}
 use Rattle.run_facts.specs.Unshared.{calls_by, ShareNoKey, NoneIsFull}
 use Rattle.run_facts.proofs.AloneRuns.{got_at, at_got, unhelped_answered, legal_runs, alone_runs}
 use Rattle.run_facts.proofs.Fullness.{some_full}
@@ -36,8 +36,7 @@ module _ {s : ShapeFacts} {c : CoverFacts} {steps : Setup → Call → ℕ → A
   run_alone unhelped unshared = alone_runs s c closed run.fits (unhelped_answered s c closed run.fits unhelped) lists replies all_told run.each unshared
 
   -- each reply `Full` is the answer to an insertion that found no record, in the play that leads to the book that the closed table has of its caller
-  pub run_full : (i n : ℕ) (own : List Reply) → slice_get replies i ≡ Some own → slice_get own n ≡ Some Full
-      → (book : Book) × (slice_get (closed_books closed) i ≡ Some book) × (p : IsCallersPlay (steps setup) budget setup c.first i (phases_of lists i) own run.bounds book) × WasFull (steps setup) budget (with_replies (calls_by lists i) own) n p.start p.left
+  pub run_full : AreCaused (steps setup) budget setup c.first lists replies run.bounds (closed_books closed)
   run_full i n own here full =
       let b = at_below (closed_books closed) i (subst (λ m. i < m) all_told (slice_get_within replies i own here)) in
       let there = at_got (closed_books closed) i b.0 b.1 in

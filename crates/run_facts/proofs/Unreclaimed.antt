@@ -82,7 +82,7 @@ module _ (s : ShapeFacts) (setup : Setup) (words : List ℕ) (books : List Book)
   first_life : (i : ℕ) (r : Record) → At fits.records i r → lives_before setup.first r ≡ 0
   first_life i r at = ⊎_elim
       (λ later. let out = fits.taken.older i setup.first (taken_cell r) (at_map taken_cell fits.records i r at) (omega arith) later in
-          let same = is_of r.place r setup.first out.0 (stays i setup.first out.0 r at out.1) in absurd (omega (arith, same, later)))
+      let same = is_of r.place r setup.first out.0 (stays i setup.first out.0 r at out.1) in absurd (omega (arith, same, later)))
       (λ few. omega (arith, few, no_older r.place r))
       (less_or_not setup.first (generation_of (taken_cell r)))
 

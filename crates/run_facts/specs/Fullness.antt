@@ -1,14 +1,20 @@
 -- What it means that a caller was told that no record is left.
-use Rattle.std.specs.Prelude.{◌≡◌, ℕ, List, [], ◌∷◌, ◌++◌, length}
+use Rattle.std.specs.Prelude.{◌≡◌, ℕ, List, [], ◌∷◌, ◌++◌, length, Some, slice_get}
 use Rattle.set_model.specs.declared.calls.Call.{Call}
 use Rattle.set_model.specs.declared.calls.Call.TheVariants.{Insert}
 use Rattle.set_model.specs.declared.calls.Reply.{Reply}
 use Rattle.set_model.specs.declared.calls.Reply.TheVariants as reply
 use Rattle.record_memory.specs.declared.books.Book.{Book}
+use Rattle.record_memory.specs.declared.books.Guard.{Guard}
+use Rattle.record_memory.specs.declared.books.Setup.{Setup}
 use Rattle.record_memory.specs.declared.books.View.{View}
 use Rattle.set_api.specs.declared.answer.Answer.{Answer}
 use Rattle.set_api.specs.declared.answer.Answer.TheVariants.{Full}
 use Rattle.set_api.specs.Turns.{Makes, Repeats, Turn, Met}
+use Rattle.set_runs.specs.Playing.{phases_of}
+use Rattle.set_runs.specs.Runs.{IsCallersPlay}
+use Rattle.run_facts.specs.Replies.{with_replies}
+use Rattle.run_facts.specs.Unshared.{calls_by}
 
 -- by a set whose calls make these steps, within this budget of hops
 module _ (steps : Call → ℕ → Answer → Book → Book → Type 0) (budget : ℕ) where
@@ -38,3 +44,9 @@ module _ (steps : Call → ℕ → Answer → Book → Book → Type 0) (budget 
     pub goes_to : Goes earlier start before
     pub finds_none : FindsNone key before behind
     pub goes_on : Goes later behind left
+
+-- Each reply `Full` of a run is the answer of such an insertion, on the way to the book that is left of its caller
+abbrev pub AreCaused : (Call → ℕ → Answer → Book → Book → Type 0) → ℕ → Setup → Guard → List (List (List Call)) → List (List Reply) → List ℕ → List Book → Type 0
+AreCaused steps budget setup first lists replies bounds books = (i n : ℕ) (own : List Reply) → slice_get replies i ≡ Some own → slice_get own n ≡ Some reply.Full
+    → (book : Book) × (slice_get books i ≡ Some book) × (p : IsCallersPlay steps budget setup first i (phases_of lists i) own bounds book)
+    × WasFull steps budget (with_replies (calls_by lists i) own) n p.start p.left

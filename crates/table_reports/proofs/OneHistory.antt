@@ -46,7 +46,7 @@ pub one_history : (s : ShapeFacts) (r : CoverFacts) (steps : Setup → Call → 
     → (run : IsSetRun s r steps budget setup lists (replies_to callers) counts closed) → calls_of callers ≡ joined lists → run.fits.waiting ≡ [] → IsOneHistory s lists callers closed
 one_history s r steps budget setup lists callers counts closed run same none =
     let told : (c : ℕ) (p : Played) → slice_get callers c ≡ Some p → slice_get (replies_to callers) c ≡ Some p.replies =
-        λ c p at. slice_get-map (λ (q : Played). q.replies) callers c ∙ ap (option_map (λ (q : Played). q.replies)) at in
+    λ c p at. slice_get-map (λ (q : Played). q.replies) callers c ∙ ap (option_map (λ (q : Played). q.replies)) at in
     record {
       legal = whole s closed run.fits.waiting none run.fits.whole.fits;
       all_books = run.all_books ∙ sym run.all_replies ∙ length-map callers (λ (q : Played). q.replies);

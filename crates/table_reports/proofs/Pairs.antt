@@ -34,7 +34,7 @@ pub all_paired : (s : ShapeFacts) (r : CoverFacts) (steps : Setup → Call → �
 all_paired s r steps budget setup lists replies counts closed run =
     let long : length replies ≡ length (joined lists) = run.all_replies ∙ sym (length-map lists calls_of_all) in
     same_lengths replies (joined lists) long (λ i within.
-        let here : i < length lists = omega (arith, within, run.all_replies) in
-        let book = some_at (closed_books closed) i (omega (arith, here, run.all_books)) in
-        let play = run.each i (get_or replies i []) book.0 (slice_get-get_or replies i [] within) book.1 in
-        (phases_add play.played).0 ∙ sym (ap length (get_or-map calls_of_all lists i [] [] here)))
+    let here : i < length lists = omega (arith, within, run.all_replies) in
+    let book = some_at (closed_books closed) i (omega (arith, here, run.all_books)) in
+    let play = run.each i (get_or replies i []) book.0 (slice_get-get_or replies i [] within) book.1 in
+    (phases_add play.played).0 ∙ sym (ap length (get_or-map calls_of_all lists i [] [] here)))

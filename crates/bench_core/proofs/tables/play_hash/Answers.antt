@@ -10,6 +10,8 @@ use Rattle.set_model.specs.declared.names.ReclaimerName.{ReclaimerName}
 use Rattle.set_model.specs.declared.names.ReclaimerName.TheVariants.{Nothing}
 use Rattle.set_model.specs.declared.names.SetName.{SetName}
 use Rattle.set_model.specs.declared.names.SetName.TheVariants.{Michael}
+use Rattle.run_facts.proofs.SetRuns.{run_full}
+use Rattle.run_facts.proofs.Unreclaimed.{unreclaimed}
 use Rattle.table_reports.proofs.OneHistory.{one_history}
 use Rattle.table_reports.proofs.Pairs.{all_paired}
 use Rattle.bench_core.specs.declared.ending.Run.{Run}
@@ -33,12 +35,14 @@ returns g c =
     let closed = c.report_table-report.result.closed in
     let records = records_for chosen lists in
     let run : IsNoneRun records chosen.buckets lists (replies_to report.callers) report.counts closed =
-        rw (sym c.records_for-records.ensures, told.replies, told.counts, told.closed) c.in_ok-played.ensures in
+    rw (sym c.records_for-records.ensures, told.replies, told.counts, told.closed) c.in_ok-played.ensures in
     let run_is : Run = record { report = report; closed = Some closed } in
     let hash : IsHashRun chosen lists report closed = record {
       played = run;
       history = one_history michael none (MakesPiece none_manner) (2 * records + 64) (setup_with records chosen.buckets (length lists) 1 Michael Nothing Bump) lists report.callers report.counts closed run told.calls (run.fits.whole.unhelped (λ helped. helped));
       keys = told.keys;
+      caused = run_full run;
+      unreclaimed = unreclaimed run;
     } in
     record {
       set_is = told.set ∙ sym c.requires.set;

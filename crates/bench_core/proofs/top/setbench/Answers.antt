@@ -78,3 +78,15 @@ returns-clause-alone g c = ending.alone c.end_of.ensures
 
 pub returns-clause-never_full : goal.returns-clause-never_full
 returns-clause-never_full g c = ending.never_full c.end_of.ensures
+
+pub returns-clause-one_history : goal.returns-clause-one_history
+returns-clause-one_history g c = ending.one_history c.end_of.ensures
+
+pub returns-clause-keys : goal.returns-clause-keys
+returns-clause-keys g c = ending.keys c.end_of.ensures
+
+pub returns-clause-unreclaimed : goal.returns-clause-unreclaimed
+returns-clause-unreclaimed g c = ending.unreclaimed c.end_of.ensures
+
+pub returns-clause-closed : goal.returns-clause-closed
+returns-clause-closed g c = ending.closes c.end_of.ensures

@@ -1,0 +1,56 @@
+-- What was played, pair by pair.
+use Rattle.std.proofs.Common.{◌≡◌, ℕ, Option, Some, None, List, refl, sym, ap, ◌∙◌, subst}
+use Rattle.command_words.specs.declared.command.PlayWords.{PlayWords}
+use Rattle.paired_replies.specs.Pairs.{calls_of}
+use Rattle.record_table.specs.declared.closing.Closed.{Closed}
+use Rattle.run_facts.specs.Unreclaimed.{IsUnreclaimed}
+use Rattle.set_model.specs.declared.names.ReclaimerName.{ReclaimerName}
+use Rattle.set_model.specs.declared.names.ReclaimerName.TheVariants.{Nothing, Debra, Hazard, Ibr}
+use Rattle.set_model.specs.declared.names.SetName.{SetName}
+use Rattle.set_model.specs.declared.names.SetName.TheVariants.{Plain, Michael, Lazy}
+use Rattle.workload_text.proofs.Held.{some_is}
+use Rattle.workload_text.specs.Limits.{Plan, joined}
+use Rattle.bench_core.specs.declared.ending.Run.{Run}
+use Rattle.bench_core.specs.Ending.{IsPlayed}
+use Rattle.bench_core.specs.Plays.{IsPlainRun, no_counts}
+use Rattle.bench_core.specs.Tables.{IsHashRun}
+
+-- the pairs that are played are these; one that joins adds a case
+pub by_pair : (P : Type 0) (set : SetName) (reclaimer : ReclaimerName) (chosen : PlayWords) (plan : Plan) (run : Run) → IsPlayed set reclaimer chosen plan run
+    → (set ≡ Plain → run.closed ≡ None → IsPlainRun plan run.report → P)
+    → (set ≡ Michael → (closed : Closed) → run.closed ≡ Some closed → IsHashRun chosen plan.lists run.report closed → P)
+    → P
+by_pair P Plain Nothing chosen plan run played plain hash = plain refl played.0 played.1
+by_pair P Michael Nothing chosen plan run played plain hash = hash refl played.0 played.1 played.2
+by_pair P Plain Debra chosen plan run played plain hash = absurd played
+by_pair P Plain Hazard chosen plan run played plain hash = absurd played
+by_pair P Plain Ibr chosen plan run played plain hash = absurd played
+by_pair P Michael Debra chosen plan run played plain hash = absurd played
+by_pair P Michael Hazard chosen plan run played plain hash = absurd played
+by_pair P Michael Ibr chosen plan run played plain hash = absurd played
+by_pair P Lazy Nothing chosen plan run played plain hash = absurd played
+by_pair P Lazy Debra chosen plan run played plain hash = absurd played
+by_pair P Lazy Hazard chosen plan run played plain hash = absurd played
+by_pair P Lazy Ibr chosen plan run played plain hash = absurd played
+
+module _ (set : SetName) (reclaimer : ReclaimerName) (chosen : PlayWords) (plan : Plan) (run : Run) (played : IsPlayed set reclaimer chosen plan run) where
+  -- a run that has a table was on a hash table
+  pub on_table : (closed : Closed) → run.closed ≡ Some closed → IsHashRun chosen plan.lists run.report closed
+  on_table closed is = by_pair (IsHashRun chosen plan.lists run.report closed) set reclaimer chosen plan run played
+      (λ plain none told. absurd (let differ : None ≡ Some closed = sym none ∙ is in cc))
+      (λ hash other there told. subst (IsHashRun chosen plan.lists run.report) (some_is other closed (sym there ∙ is)) told)
+
+  -- and one on a plain set has none
+  pub has_table : run.report.set ≡ set → (run.report.set ≡ Plain → run.closed ≡ None) × (run.closed ≡ None → run.report.set ≡ Plain)
+  has_table is = by_pair ((run.report.set ≡ Plain → run.closed ≡ None) × (run.closed ≡ None → run.report.set ≡ Plain)) set reclaimer chosen plan run played
+      (λ plain none told. ((λ same. none), λ same. is ∙ plain))
+      (λ hash closed there told. (
+        λ same. absurd (let differ : Michael ≡ Plain = sym (is ∙ hash) ∙ same in cc),
+        λ none. absurd (let differ : Some closed ≡ None = sym there ∙ none in cc),
+      ))
+
+  -- no pair that is played frees a record
+  pub frees_none : IsUnreclaimed run.report.counts
+  frees_none = by_pair (IsUnreclaimed run.report.counts) set reclaimer chosen plan run played
+      (λ plain none told. subst IsUnreclaimed (sym told.counts) (record { reused = refl; freed = refl; free = refl; spent = refl }))
+      (λ hash closed there told. told.unreclaimed)
