@@ -1,2 +1,3 @@
+pub mod Balanced
 pub mod OneHistory
 pub mod Pairs
