@@ -31,7 +31,7 @@ use Rattle.set_model.specs.declared.names.ReclaimerName.{ReclaimerName}
 use Rattle.set_model.specs.declared.names.SetName.{SetName}
 use Rattle.set_model.specs.declared.names.SetName.TheVariants.{Plain}
 use Rattle.table_reports.specs.History.{IsOneHistory}
-use Rattle.table_reports.specs.Reports.{TellsKeys}
+use Rattle.table_reports.specs.Reports.{TellsKeys, RepliesAddUp}
 use Rattle.workload_text.proofs.TextLength.{length-text_of-le}
 use Rattle.workload_text.specs.Limits.{Plan, joined}
 use Rattle.workload_text.specs.Text.{text_of}
@@ -334,6 +334,9 @@ module _ {S K : Type 0} {left : S → Option (List ℕ)} {source_faults : S → 
 
   pub keys : (r : Run) (closed : Closed) → ended.run ≡ Some r → r.closed ≡ Some closed → TellsKeys closed r.report
   keys r closed is there = (table_run r closed is there).3.keys
+
+  pub adds_up : (r : Run) (closed : Closed) → ended.run ≡ Some r → r.closed ≡ Some closed → RepliesAddUp r.report
+  adds_up r closed is there = (table_run r closed is there).3.adds_up
 
   pub unreclaimed : (r : Run) → ended.run ≡ Some r → r.report.reclaimer ≡ Nothing → IsUnreclaimed r.report.counts
   unreclaimed r is nothing = elim (run r is).2 [

@@ -8,7 +8,8 @@ use Rattle.set_model.specs.declared.calls.Call.{Call}
 use Rattle.set_model.specs.declared.calls.Reply.{Reply}
 use Rattle.set_model.specs.Keys.{empty}
 use Rattle.report_text.specs.declared.report.Played.{Played}
-use Rattle.paired_replies.specs.Pairs.{items_of, replies_to}
+use Rattle.listed.specs.Vectors.{items_of}
+use Rattle.paired_replies.specs.Pairs.{replies_to}
 use Rattle.workload_text.specs.Limits.{IsWorkload, Plan, calls_of_all, joined}
 use Rattle.bench_core.specs.Plays.{AreTold, order_of, told_to}
 use Rattle.bench_core.proofs.PlayOrder.{length-told_to, own_count-order}

@@ -17,7 +17,7 @@ use Rattle.run_facts.specs.Fullness.{AreCaused}
 use Rattle.run_facts.specs.Unreclaimed.{IsUnreclaimed}
 use Rattle.workload_text.specs.Limits.{joined}
 use Rattle.table_reports.specs.History.{IsOneHistory}
-use Rattle.table_reports.specs.Reports.{TellsKeys}
+use Rattle.table_reports.specs.Reports.{TellsKeys, RepliesAddUp}
 
 -- how many calls insert, of all callers together
 abbrev pub all_insertions : List (List (List Call)) → ℕ
@@ -44,11 +44,13 @@ abbrev pub records_for : PlayWords → List (List (List Call)) → ℕ
 records_for chosen lists = records_chosen chosen.records (needed chosen.set (roots_in chosen.set chosen.buckets) lists)
 
 -- The callers played these lists on a hash table without reclamation, which they closed. The counts are those of that
--- run, the replies are those of the closed table's one history, and so are the number of keys and their sum.
+-- run, the replies are those of the closed table's one history, and so are the number of keys and their sum, which are
+-- also what the replies add up to.
 pub record IsHashRun (chosen : PlayWords) (lists : List (List (List Call))) (report : Report) (closed : Closed) : Type 0 where
   pub played : IsNoneRun (records_for chosen lists) chosen.buckets lists (replies_to report.callers) report.counts closed
   pub history : IsOneHistory michael lists report.callers closed
   pub keys : TellsKeys closed report
+  pub adds_up : RepliesAddUp report
   -- a reply `full` has its cause
   pub caused : AreCaused (MakesPiece none_manner (none_setup (records_for chosen lists) chosen.buckets (length lists))) (hops_for (records_for chosen lists))
       (none_setup (records_for chosen lists) chosen.buckets (length lists)) none.first lists (replies_to report.callers) played.bounds (closed_books closed)

@@ -1,6 +1,6 @@
 // Runs under no reclamation.
 ghost use Rattle.std.specs.Prelude.{◌<◌, ◌≤◌, IfOk};
-ghost use Rattle.set_runs.specs.Runs.{items_of};
+ghost use Rattle.listed.specs.Vectors.{items_of};
 ghost use Rattle.hash_runs.specs.HashRuns.{IsNoneRun};
 
 use alloc_bump::Bump;

@@ -6,7 +6,8 @@
 #![tactic(auto)]
 
 ghost use Rattle.std.specs.Prelude.{◌≡◌, ◌≤◌, [], length, map, vec_capacity};
-ghost use Rattle.paired_replies.specs.Pairs.{items_of, calls_of, replies_to};
+ghost use Rattle.listed.specs.Vectors.{items_of};
+ghost use Rattle.paired_replies.specs.Pairs.{calls_of, replies_to};
 
 use listed::Listed;
 use report_text::Played;

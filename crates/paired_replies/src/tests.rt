@@ -1,6 +1,6 @@
 // Callers with what they called and were told, and what a run keeps of them.
 ghost use Rattle.std.specs.Prelude.{◌≡◌, IfOk, length, map};
-ghost use Rattle.paired_replies.specs.Pairs.{items_of};
+ghost use Rattle.listed.specs.Vectors.{items_of};
 
 use super::*;
 use std::alloc::{AllocError, Global};

@@ -19,10 +19,6 @@ use Rattle.set_runs.specs.declared.players.Player.{Player}
 use Rattle.set_runs.specs.Playing.{phases_of, IsSeated}
 use Rattle.set_runs.specs.Totals.{AreTotalsOf}
 
--- the lists that vectors of replies hold
-abbrev pub items_of : List (Vec Reply) → List (List Reply)
-items_of replies = map (λ own. own.items) replies
-
 -- Each has its seat and made no step yet
 pub record AreAtStart {T C : Type 0} (has : T → C → Type 0) (set : T) (view : C → View) (setup : Setup) (first : Guard) (lists : List (List (List Call))) (players : List (Player C)) : Type 0 where
   pub all : length players ≡ length lists

@@ -3,7 +3,8 @@ ghost use Rattle.std.specs.Prelude.{◌≡◌, ℕ, ◌+◌, ◌≤◌, List, []
 ghost use Rattle.workload_text.specs.Limits.{IsWorkload, phase_lines};
 ghost use Rattle.set_api.specs.Callers.{AreFreshCallers};
 ghost use Rattle.set_runs.specs.Playing.{AtEach, IsAt};
-ghost use Rattle.set_runs.specs.Runs.{AreAtStart, IsSetRun, items_of};
+ghost use Rattle.listed.specs.Vectors.{items_of};
+ghost use Rattle.set_runs.specs.Runs.{AreAtStart, IsSetRun};
 
 use crate::phases::play_phases;
 use crate::players::Player;

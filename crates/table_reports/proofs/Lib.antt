@@ -1,3 +1,3 @@
-pub mod Balanced
+pub mod AddingUp
 pub mod OneHistory
 pub mod Pairs

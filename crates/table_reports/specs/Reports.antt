@@ -19,10 +19,10 @@ pub record TellsKeys (closed : Closed) (report : Report) : Type 0 where
   pub sum_is : report.sum ≡ sum_of (keys_of (history_of closed))
 
 -- the calls of a caller with the replies that are printed for them
-abbrev pub told_to : Played → List (Call × Reply)
-told_to played = with_replies played.calls played.replies
+abbrev pub printed_answers : Played → List (Call × Reply)
+printed_answers played = with_replies played.calls played.replies
 
 -- What the printed replies added, less what they took away, is the printed size, and their keys add up to the printed sum
-pub record IsBalanced (report : Report) : Type 0 where
-  pub size : report.size + sum_by (λ p. count_by is_removal (told_to p)) report.callers ≡ sum_by (λ p. count_by is_addition (told_to p)) report.callers
-  pub sum : report.sum + sum_by (λ p. key_sum is_removal (told_to p)) report.callers ≡ sum_by (λ p. key_sum is_addition (told_to p)) report.callers
+pub record RepliesAddUp (report : Report) : Type 0 where
+  pub size : report.size + sum_by (λ p. count_by is_removal (printed_answers p)) report.callers ≡ sum_by (λ p. count_by is_addition (printed_answers p)) report.callers
+  pub sum : report.sum + sum_by (λ p. key_sum is_removal (printed_answers p)) report.callers ≡ sum_by (λ p. key_sum is_addition (printed_answers p)) report.callers

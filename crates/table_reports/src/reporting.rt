@@ -1,7 +1,8 @@
 // From what a run leaves to what is told of it.
 ghost use Rattle.std.specs.Prelude.{◌≡◌, ◌≤◌, [], length, map, vec_capacity};
 ghost use Rattle.closed_lists.specs.Listed.{HasLists};
-ghost use Rattle.paired_replies.specs.Pairs.{calls_of, items_of, replies_to};
+ghost use Rattle.listed.specs.Vectors.{items_of};
+ghost use Rattle.paired_replies.specs.Pairs.{calls_of, replies_to};
 ghost use Rattle.table_reports.specs.Reports.{TellsKeys};
 ghost use Rattle.workload_text.specs.Limits.{joined};
 

@@ -5,7 +5,8 @@ use Rattle.std.specs.Iterator.Adapters.{zip_first, zip_second}
 use Rattle.std.specs.Vec.Iter.{into_iter_items}
 use Rattle.set_model.specs.declared.calls.Call.{Call}
 use Rattle.set_model.specs.declared.calls.Reply.{Reply}
-use Rattle.paired_replies.specs.Pairs.{calls_of, replies_to, items_of}
+use Rattle.listed.specs.Vectors.{items_of}
+use Rattle.paired_replies.specs.Pairs.{calls_of, replies_to}
 use Rattle.paired_replies.proofs.Pairing.{PairsTo-count, PairsTo-end, PairsTo-same}
 use Rattle.paired_replies.proofs.pair_up.Goals as goal
 

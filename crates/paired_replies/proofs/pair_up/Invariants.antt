@@ -1,7 +1,7 @@
 use Rattle.std.proofs.Common.{◌≡◌, ◌≤◌, length, vec_capacity}
 use Rattle.std.specs.Iterator.Adapters.{zip_first, zip_second}
 use Rattle.std.specs.Vec.Iter.{into_iter_items, into_iter_len}
-use Rattle.paired_replies.specs.Pairs.{items_of}
+use Rattle.listed.specs.Vectors.{items_of}
 use Rattle.paired_replies.proofs.Pairing.{PairsTo}
 use Rattle.paired_replies.proofs.pair_up.Given as goal
 

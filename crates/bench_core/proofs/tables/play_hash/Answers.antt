@@ -1,9 +1,12 @@
 use Rattle.std.proofs.Common.{◌+◌, ◌*◌, length, Some, refl, sym, ◌∙◌, subst}
 use Rattle.cover_facts.specs.Keeping.{none}
+use Rattle.key_sums.proofs.ClosedBalance.{closed_balance}
+use Rattle.list_facts.proofs.ListEnds.{michael_lists}
 use Rattle.hash_runs.specs.HashRuns.{IsNoneRun, none_manner}
 use Rattle.list_facts.specs.Michael.{michael}
 use Rattle.michael_hash.specs.Pieces.{MakesPiece}
-use Rattle.paired_replies.specs.Pairs.{items_of, replies_to}
+use Rattle.listed.specs.Vectors.{items_of}
+use Rattle.paired_replies.specs.Pairs.{replies_to}
 use Rattle.record_table.specs.Made.{setup_with}
 use Rattle.set_model.specs.declared.names.AllocatorName.TheVariants.{Bump}
 use Rattle.set_model.specs.declared.names.ReclaimerName.{ReclaimerName}
@@ -12,6 +15,7 @@ use Rattle.set_model.specs.declared.names.SetName.{SetName}
 use Rattle.set_model.specs.declared.names.SetName.TheVariants.{Michael}
 use Rattle.run_facts.proofs.SetRuns.{run_full}
 use Rattle.run_facts.proofs.Unreclaimed.{unreclaimed}
+use Rattle.table_reports.proofs.AddingUp.{replies_add_up}
 use Rattle.table_reports.proofs.OneHistory.{one_history}
 use Rattle.table_reports.proofs.Pairs.{all_paired}
 use Rattle.bench_core.specs.declared.ending.Run.{Run}
@@ -36,11 +40,13 @@ returns g c =
     let records = records_for chosen lists in
     let run : IsNoneRun records chosen.buckets lists (replies_to report.callers) report.counts closed =
     rw (sym c.records_for-records.ensures, told.replies, told.counts, told.closed) c.in_ok-played.ensures in
+    let history = one_history michael none (MakesPiece none_manner) (2 * records + 64) (setup_with records chosen.buckets (length lists) 1 Michael Nothing Bump) lists report.callers report.counts closed run told.calls (run.fits.whole.unhelped (λ helped. helped)) in
     let run_is : Run = record { report = report; closed = Some closed } in
     let hash : IsHashRun chosen lists report closed = record {
       played = run;
-      history = one_history michael none (MakesPiece none_manner) (2 * records + 64) (setup_with records chosen.buckets (length lists) 1 Michael Nothing Bump) lists report.callers report.counts closed run told.calls (run.fits.whole.unhelped (λ helped. helped));
+      history = history;
       keys = told.keys;
+      adds_up = replies_add_up closed report (closed_balance michael_lists closed run.fits) told.keys history;
       caused = run_full run;
       unreclaimed = unreclaimed run;
     } in

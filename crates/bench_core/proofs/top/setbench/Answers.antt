@@ -85,6 +85,9 @@ returns-clause-one_history g c = ending.one_history c.end_of.ensures
 pub returns-clause-keys : goal.returns-clause-keys
 returns-clause-keys g c = ending.keys c.end_of.ensures
 
+pub returns-clause-adds_up : goal.returns-clause-adds_up
+returns-clause-adds_up g c = ending.adds_up c.end_of.ensures
+
 pub returns-clause-unreclaimed : goal.returns-clause-unreclaimed
 returns-clause-unreclaimed g c = ending.unreclaimed c.end_of.ensures
 

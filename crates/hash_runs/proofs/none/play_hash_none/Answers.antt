@@ -7,7 +7,8 @@ use Rattle.record_table.specs.Made.{setup_with}
 use Rattle.cover_facts.specs.Keeping.{none}
 use Rattle.list_facts.specs.Michael.{michael}
 use Rattle.michael_hash.specs.Pieces.{MakesPiece}
-use Rattle.set_runs.specs.Runs.{IsSetRun, items_of}
+use Rattle.listed.specs.Vectors.{items_of}
+use Rattle.set_runs.specs.Runs.{IsSetRun}
 use Rattle.hash_runs.specs.HashRuns.{none_manner}
 use Rattle.hash_runs.proofs.none.play_hash_none.Goals as goal
 

@@ -1,5 +1,5 @@
 use Rattle.std.proofs.Common.{◌≡◌, length, map}
-use Rattle.paired_replies.specs.Pairs.{items_of}
+use Rattle.listed.specs.Vectors.{items_of}
 use Rattle.paired_replies.proofs.tests.lists_of.Given as goal
 
 abbrev pub invariant-loop-own : goal.invariant-loop-own

@@ -7,7 +7,7 @@ use Rattle.record_table.specs.Closing.{closed_books}
 use Rattle.workload_text.specs.Limits.{phase_lines}
 use Rattle.set_runs.specs.declared.players.Player.{Player}
 use Rattle.set_runs.specs.Totals.{AreTotalsOf}
-use Rattle.set_runs.specs.Runs.{items_of}
+use Rattle.listed.specs.Vectors.{items_of}
 use Rattle.set_runs.proofs.Whole.{map_twice, callers_stay, in_order, each_plays, whole_phases}
 use Rattle.set_runs.proofs.runs.play_workload.Goals as goal
 

@@ -17,15 +17,15 @@ use Rattle.key_sums.specs.Tallies.{IsTallyOf, is_addition, is_removal, key_sum}
 use Rattle.run_facts.proofs.AloneRuns.{at_got}
 use Rattle.set_model.specs.declared.calls.Call.{Call}
 use Rattle.table_reports.specs.History.{IsOneHistory, IsPrintedOf}
-use Rattle.table_reports.specs.Reports.{TellsKeys, IsBalanced, told_to}
+use Rattle.table_reports.specs.Reports.{TellsKeys, RepliesAddUp, printed_answers}
 
 -- what the printed replies of a caller add up to
 tally_of : Played → Tally
 tally_of p = record {
-  added = count_by is_addition (told_to p);
-  removed = count_by is_removal (told_to p);
-  added_sum = key_sum is_addition (told_to p);
-  removed_sum = key_sum is_removal (told_to p);
+  added = count_by is_addition (printed_answers p);
+  removed = count_by is_removal (printed_answers p);
+  added_sum = key_sum is_addition (printed_answers p);
+  removed_sum = key_sum is_removal (printed_answers p);
 }
 
 -- a sum over what is made of a list's elements
@@ -39,15 +39,15 @@ tallies_of : (closed : Closed) (callers : List Played) → length (closed_books 
 tallies_of closed callers all printed = record {
   many = length-map callers tally_of ∙ sym all;
   each = λ d t b at there. let told = map_at tally_of callers d t at in record {
-    answers = told_to told.0;
-    tally = subst (λ u. IsTallyOf u (told_to told.0)) told.2 (record { added = refl; removed = refl; added_sum = refl; removed_sum = refl });
+    answers = printed_answers told.0;
+    tally = subst (λ u. IsTallyOf u (printed_answers told.0)) told.2 (record { added = refl; removed = refl; added_sum = refl; removed_sum = refl });
     answered = printed d told.0 b (at_got callers d told.0 told.1) (at_got (closed_books closed) d b there);
   };
 }
 
-pub balanced : {s : ShapeFacts} {lists : List (List (List Call))} (closed : Closed) (report : Report) → ((tallies : List Tally) → AreTalliesOf closed tallies → AreBalanced closed tallies)
-    → TellsKeys closed report → IsOneHistory s lists report.callers closed → IsBalanced report
-balanced closed report adds keys history =
+pub replies_add_up : {s : ShapeFacts} {lists : List (List (List Call))} (closed : Closed) (report : Report) → ((tallies : List Tally) → AreTalliesOf closed tallies → AreBalanced closed tallies)
+    → TellsKeys closed report → IsOneHistory s lists report.callers closed → RepliesAddUp report
+replies_add_up closed report adds keys history =
     let tallies = map tally_of report.callers in
     let b = adds tallies (tallies_of closed report.callers history.all_books history.printed) in
     record {
