@@ -118,6 +118,7 @@ module _ (s : ShapeFacts) (c : CoverFacts) (setup : Setup) (t : State (Unit {0})
     reclaimer_is = u.reclaimer_is;
     wide = u.wide;
     found = λ d b e n step. u.made d b (carried d b e) n step;
+    seen = λ d b e n step. u.seen d b (carried d b e) n step;
     records = u.records;
     placed = subst (λ books. Places setup u.records books (memory setup.callers setup.records t.words)) (sym all_books) u.places;
     counted = subst (λ rows. CountsAddUp setup rows u.records u.taken_out) u.places.rows (counts_add_up setup numbers u.records u.places.many u.places.sound u.taken_out (taken_out_counted setup u.records u.taken_out u.places.sound u.parts.taken));

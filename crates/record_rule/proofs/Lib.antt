@@ -45,5 +45,6 @@ pub mod Tying
 pub mod Closes
 pub mod CountingPlaces
 pub mod CountingTakings
+pub mod Drained
 pub mod TakesFree
 pub mod Makes

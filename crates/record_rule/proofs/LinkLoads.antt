@@ -7,7 +7,7 @@ use lib.ListN.{get_elem?}
 use Rattle.atomic_table.specs.Table.{State}
 use Rattle.atomic_table.proofs.Lists.{at_map, at_set, set_again}
 use Rattle.set_model.specs.declared.calls.Update.{Update}
-use Rattle.record_memory.specs.declared.steps.Word.TheVariants.{Field}
+use Rattle.record_memory.specs.declared.steps.Word.TheVariants.{Drawn, Field}
 use Rattle.record_memory.specs.declared.steps.StepKind.TheVariants.{Load}
 use Rattle.record_memory.specs.declared.steps.Step.{Step}
 use Rattle.record_memory.specs.declared.books.Setup.{Setup}
@@ -30,7 +30,7 @@ use Rattle.record_rule.specs.Recorded.{StepFits}
 use Rattle.record_rule.specs.Kinds.{Lawful}
 use Rattle.record_rule.specs.Links.{roots_kept, Origin, from_place, index_of, generation_at, note_in, near_of, Holds, FitsBody, node_step, with_step, seeing, LoadedKey, noting, Saw, LoadedLink}
 use Rattle.record_rule.proofs.Lists.{map_set_same}
-use Rattle.record_rule.proofs.Rebuilt.{starts_itself, made_more, stepped}
+use Rattle.record_rule.proofs.Rebuilt.{starts_itself, made_more, elsewhere, stepped}
 use Rattle.record_rule.proofs.Safe.{safe}
 use Rattle.record_rule.proofs.Recents.{recent_started, recent_noting, held_started, known_started, step_started, words_started}
 use Rattle.record_rule.proofs.Counts.{counts_calm}
@@ -125,11 +125,11 @@ module _ (shape : ShapeFacts) (cover : CoverFacts) (setup : Setup) (s : State (U
     book_after t g notes roots = record (with_step v.own v.setup.records t) { guard = g; notes = notes; root_notes = roots }
 
     -- The rule after a load with which the caller came to hold and to know this
-    pub rule_after : (word : ℕ) (t : Step) → StepFits setup c t → (g : Guard) (notes : List Note) (roots : List (List ℕ)) → IsCalm t.kind → IsRecent (length u.updates) (length u.taken_out) g notes → g.announced ≡ v.own.guard.announced
+    pub rule_after : (word : ℕ) (t : Step) → StepFits setup c t → ¬ (t.word ≡ Drawn) → (g : Guard) (notes : List Note) (roots : List (List ℕ)) → IsCalm t.kind → IsRecent (length u.updates) (length u.taken_out) g notes → g.announced ≡ v.own.guard.announced
         → (v.own.guard.start_step ≤ length v.own.steps → g.start_step ≤ length (v.own.steps ++ t ∷ []))
         → HeldFits shape cover.places was.shapes u.taken_out g notes → KnownFits shape setup (shape_input was) u.updates g notes roots → ToldStart (start_of g) → cover.covered setup (with_guard (scheme_input was) c g)
         → Rule shape cover setup record { words = set s.words word (get_or s.words word 0); homes = s.homes; views = set s.views id (seeing v u.updates u.taken_out (book_after t g notes roots)) }
-    rule_after word t finds g notes roots calm recent words started held known told covered = let f = u.seated id v at in let own : Book = book_after t g notes roots in
+    rule_after word t finds other g notes roots calm recent words started held known told covered = let f = u.seated id v at in let own : Book = book_after t g notes roots in
         subst (λ (ws : List ℕ). Rule shape cover setup record { words = ws; homes = s.homes; views = set s.views id (seeing v u.updates u.taken_out own) }) (sym (set-get_or s.words word 0))
         (stepped shape cover setup s u id v (seeing v u.updates u.taken_out own) at present s.words u.wide u.records u.taken_out u.updates (starts_itself u.taken_out) (starts_itself u.updates) record {
           setup = refl;
@@ -146,6 +146,7 @@ module _ (shape : ShapeFacts) (cover : CoverFacts) (setup : Setup) (s : State (U
           start_made = started;
           made = λ h. made_more setup c v.own.steps t finds h;
         }
+        t refl (elsewhere m.drawn m.drawn t refl other)
         (places_calm setup u.records u.books m c v.own own own_there refl refl (calm_after v.own.drawing v.setup.records t calm) u.places)
         (subst (Parts shape cover setup) (outline_held m u.records u.books c v.own own u.taken_out u.updates own_there refl refl refl) (held_parts g notes roots recent.updates_since words held known told covered)) (counts_calm setup.first u.records u.books c v.own own own_there u.counts refl))
 
@@ -196,7 +197,7 @@ module _ (shape : ShapeFacts) (cover : CoverFacts) (shaped : ShapeLaws shape) (c
       let fits : FitsBody shape (near_of v o) (drop 3 n.node.row) = fits_body shape (map shape_cell u.records) (near_of v o) (r.index - 1) n.node.generation n.node.marked (drop 3 n.node.row) n.fits in
       let found : keyed.0 ≡ k = sym (fits 1 keyed.0 keyed.1).0 ∙ body_word n.node.row 4 (omega arith) ∙ sym (found_word shape cover setup is_setup s u id v at present o n word 4 is (omega arith)) in (
         record v { own = with_step v.own v.setup.records t },
-        kept_calm shape cover setup s u id v at present word t (node_finds shape cover setup is_setup s u id v at present o n Load word 4 is (omega arith) (inl refl)) tt,
+        kept_calm shape cover setup s u id v at present word t (node_finds shape cover setup is_setup s u id v at present o n Load word 4 is (omega arith) (inl refl)) (λ e. let none : ⊥ = cc in absurd none) tt,
         record { known = keyed.1 ∙ ap (λ (z : ℕ). some (Some z)) found; own = found_own shape cover setup is_setup s u id v at present o n word 4 is (omega arith); view = refl },
       )
 
@@ -219,7 +220,7 @@ module _ (shape : ShapeFacts) (cover : CoverFacts) (shaped : ShapeLaws shape) (c
       let covered = covered_started covering setup (scheme_input x) v.own.caller step (length u.updates) v.own.guard b (λ e. (and_parts cover.begins_loading first e).0)
       (safe shape cover setup u.records u.books u.taken_out u.updates (memory setup.callers setup.records s.words) u.places u.parts) u.parts.scheme my_guard in (
         seeing v u.updates u.taken_out (book_after shape cover setup s u id v at present t g notes (roots_kept b v.own.root_notes)),
-        rule_after shape cover setup s u id v at present word t (node_finds shape cover setup is_setup s u id v at present o n Load word f is below (inl refl)) g notes (roots_kept b v.own.root_notes) tt recent (words_started time v.own.guard step notes b)
+        rule_after shape cover setup s u id v at present word t (node_finds shape cover setup is_setup s u id v at present o n Load word f is below (inl refl)) (λ e. cc) g notes (roots_kept b v.own.root_notes) tt recent (words_started time v.own.guard step notes b)
             (λ h. let l = length-append v.own.steps (t ∷ []) in step_started time v.own.guard step notes b (length (v.own.steps ++ t ∷ [])) (omega arith) (omega arith))
             (held_started time v.own.guard step notes shape cover.places cells u.taken_out b (omega arith) held) (known_started time v.own.guard step notes shape setup (shape_input x) u.updates v.own.root_notes b known) told covered,
         record {

@@ -27,7 +27,7 @@ use Rattle.record_rule.specs.Kinds.{field_store, field_load, stored_as, stored, 
 use Rattle.record_rule.proofs.Lists.{below_at, get_at, map_at}
 use Rattle.record_rule.proofs.Owned.{at_some, share_of, has}
 use Rattle.record_rule.proofs.Counts.{counts_moved, balances_stored}
-use Rattle.record_rule.proofs.Rebuilt.{not_held, rebuilt}
+use Rattle.record_rule.proofs.Rebuilt.{not_held, elsewhere, rebuilt}
 use Rattle.record_rule.proofs.Quiet.{calm_after, IsSameBook, outline_scheme, outline_after}
 use Rattle.record_rule.proofs.Steps.{before, book, kept_calm}
 use Rattle.record_rule.proofs.Safe.{safe}
@@ -162,7 +162,7 @@ module _ (shape : ShapeFacts) (cover : CoverFacts) (setup : Setup) (s : State (U
     -- so the rule stays where the facts hold
     kept_with : Parts shape cover setup now → Kept i f value h
     kept_with parts = rebuilt shape cover setup s u id v at present (words_after i f value) (length-set s.words (address setup.callers (Field i f)) value ∙ u.wide) (set u.records (i - 1) new) (after i f value h).own _
-        (not_held setup v.own.caller _ refl (inr (inl refl))) refl refl refl refl refl places_after parts
+        (not_held setup v.own.caller _ refl (inr (inl refl))) refl refl refl refl refl (elsewhere m.drawn _ _ (ap (λ (x : Memory). x.drawn) stored_words) (λ e. cc)) places_after parts
         (counts_moved setup.first u.records u.books c v.own (after i f value h).own own_there u.counts (i - 1) r new there (balances_stored setup.first c h.standing v.own.moves r new is refl refl))
 
     -- the store that ends a handing out
@@ -235,6 +235,6 @@ module _ (shape : ShapeFacts) (cover : CoverFacts) (laws : CoverLaws cover) (set
       let found : n ≡ get_or r.row f 0 = ap (λ (z : ℕ). get_or s.words z 0) is ∙ load_kept shape cover setup s u id v at present i f r pos below x.1 in
       let known_link : f ≡ 1 → IsPackedLink n = λ one. subst IsPackedLink (sym (found ∙ ap (λ (z : ℕ). get_or r.row z 0) one)) ((u.places.sound (i - 1) r x.1).links 1 (inl refl)).0 in (
         loaded v i f n,
-        kept_calm shape cover setup s u id v at present word (field_load v i f n) (not_held setup v.own.caller (field_load v i f n) refl (inl refl)) tt,
+        kept_calm shape cover setup s u id v at present word (field_load v i f n) (not_held setup v.own.caller (field_load v i f n) refl (inl refl)) (λ e. let none : ⊥ = cc in absurd none) tt,
         (refl, subst (λ (o : Option Share). IsKnownAs o f n) (sym mine) (found ∙ known_there h r f x.3 lt, known_link)),
       )

@@ -22,6 +22,7 @@ use Rattle.record_rule.proofs.Lists.{map_set_same}
 use Rattle.record_rule.proofs.Counts.{counts_calm}
 use Rattle.record_rule.proofs.Quiet.{calm_after, places_calm}
 use Rattle.record_rule.proofs.Rebuilt.{starts_itself, one_more, made_more, load_on, not_held, stepped}
+use Rattle.record_rule.proofs.Loads.{load_within}
 use Rattle.record_rule.proofs.Steps.{before, book, own_behind}
 use Rattle.record_rule.proofs.HistoryMoves.{reads, free_by}
 use Rattle.record_rule.proofs.Seats.{at_end}
@@ -59,6 +60,7 @@ module _ (shape : ShapeFacts) (cover : CoverFacts) (setup : Setup) where
               start_made = one_more v.own.guard.start_step v.own.steps t;
               made = made_more setup c v.own.steps t (not_held setup c t refl (load_on setup c (word_at v.setup.callers word)));
             }
+            t refl record { grows = omega arith; found = load_within setup s.words v word }
             (places_calm setup u.records u.books m c v.own w.own mine refl refl (calm_after v.own.drawing v.setup.records t tt) u.places)
             (subst (Parts shape cover setup) (λ k. record {
               shapes = was.shapes;

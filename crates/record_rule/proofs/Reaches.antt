@@ -192,7 +192,7 @@ module _ (shape : ShapeFacts) (cover : CoverFacts) (shaped : ShapeLaws shape) (c
       let covered = covering.reaches setup (scheme_input x) v.own.caller (length u.updates) v.own.guard q (target_of l) (safe shape cover setup u.records u.books u.taken_out u.updates (memory setup.callers setup.records s.words) u.places u.parts) u.parts.scheme
       (at_map guard_of u.books v.own.caller v.own (book shape cover setup s u id v at present)) may_reach came.reachable_is in (
         seeing v u.updates u.taken_out (book_after shape cover setup s u id v at present t g notes (roots_kept b v.own.root_notes)),
-        rule_after shape cover setup s u id v at present word t (node_finds shape cover setup is_setup s u id v at present o n Load word f is below (inl refl)) g notes (roots_kept b v.own.root_notes) tt
+        rule_after shape cover setup s u id v at present word t (node_finds shape cover setup is_setup s u id v at present o n Load word f is below (inl refl)) (λ e. cc) g notes (roots_kept b v.own.root_notes) tt
             recent has.words (λ h. let l = length-append v.own.steps (t ∷ []) in step_by b time q.step (length (v.own.steps ++ t ∷ [])) v.own.guard g has.start (omega arith) (omega arith)) held
             (known_reached shape cover shaped setup s u id v at present g q (target_of l) note (blank_kept shape came.target (length u.updates)) has.holds has.only b (again_by b time q.step v.own.guard g has.start))
             (told_reached shape cover shaped setup s u id v at present b g q.step has.start) covered,

@@ -22,7 +22,7 @@ use Rattle.record_memory.specs.declared.books.Answered.{Answered}
 use Rattle.record_rule.specs.Histories.{after}
 use Rattle.record_rule.specs.World.{StartsWith, carried_if, carries, IsRecent, SeatFits, Places, Parts, Rule}
 use Rattle.record_rule.specs.Counts.{CountsFit}
-use Rattle.record_rule.specs.Recorded.{IsStepOn, StepFits}
+use Rattle.record_rule.specs.Recorded.{IsStepOn, StepFits, FoundWithin}
 use Rattle.record_memory.specs.declared.steps.Word.{Word}
 use Rattle.record_memory.specs.declared.steps.Word.TheVariants.{Drawn, Epoch, Lock, Blank, Shelf, Announced, Cursor, Field}
 use Rattle.record_memory.specs.declared.steps.StepKind.TheVariants.{Load}
@@ -137,12 +137,25 @@ module _ (setup : Setup) (books : List Book) (seats : List ℕ) (taken_out taken
       (λ t. other_seat id j w v.own.caller x.own (own_book setup books seats taken_out updates id v here mine).1 t.0 (all j w t.1))
       (at_set views id j x w e)
 
+-- what is so of each step, after one more of which it is so
+each_more : (P : Step → Type 0) (steps : List Step) (step : Step) → P step → ((n : ℕ) (t : Step) → At steps n t → P t) → (n : ℕ) (t : Step) → At (steps ++ step ∷ []) n t → P t
+each_more P [] step last h zero t e = subst P (some-injective step t e) last
+each_more P [] step last h (suc n) t e = absurd (some-ne-none t (sym e))
+each_more P (x ∷ xs) step last h zero t e = h 0 t e
+each_more P (x ∷ xs) step last h (suc n) t e = each_more P xs step last (λ i a b. h (suc i) a b) n t e
+
 -- each step found what it should, after one more that did
 pub made_more : (setup : Setup) (c : ℕ) (steps : List Step) (step : Step) → StepFits setup c step → ((n : ℕ) (t : Step) → At steps n t → StepFits setup c t) → (n : ℕ) (t : Step) → At (steps ++ step ∷ []) n t → StepFits setup c t
-made_more setup c [] step finds h zero t e = subst (StepFits setup c) (some-injective step t e) finds
-made_more setup c [] step finds h (suc n) t e = absurd (some-ne-none t (sym e))
-made_more setup c (x ∷ xs) step finds h zero t e = h 0 t e
-made_more setup c (x ∷ xs) step finds h (suc n) t e = made_more setup c xs step finds (λ i a b. h (suc i) a b) n t e
+made_more setup c steps step finds = each_more (StepFits setup c) steps step finds
+
+-- What a step leaves of the number of records drawn is no less than before, and no less than it found there
+pub record LeavesDrawn (before after : ℕ) (t : Step) : Type 0 where
+  pub grows : before ≤ after
+  pub found : FoundWithin after t
+
+-- as a step on another word does
+pub elsewhere : (before after : ℕ) (t : Step) → after ≡ before → ¬ (t.word ≡ Drawn) → LeavesDrawn before after t
+elsewhere before after t same other = record { grows = omega arith; found = λ e. absurd (other e) }
 
 -- a load may be made of any word
 pub load_on : (setup : Setup) (c : ℕ) (w : Word) → IsStepOn setup c w Load
@@ -191,16 +204,18 @@ module _ (shape : ShapeFacts) (cover : CoverFacts) (setup : Setup) where
     counts = u.counts;
     start_made = u.start_made;
     made = u.made;
+    seen = u.seen;
     seated = fits;
   }
 
   -- The rule after a step of the pass in seat id, which knew v and then knows w
   pub stepped : (t : State (Unit {0}) View) (u : Rule shape cover setup t) (id : ℕ) (v w : View) → get_elem? t.views id ≡ some v → v.present ≡ true
       → (ws : List ℕ) → length ws ≡ size setup.callers setup.records → (records : List Record) (taken_out : List RefParts) (updates : List Update) → StartsWith taken_out u.taken_out → StartsWith updates u.updates → Steps setup taken_out updates v w
+      → (step : Step) → w.own.steps ≡ v.own.steps ++ step ∷ [] → LeavesDrawn (read t.words).drawn (read ws).drawn step
       → Places setup records (set u.books v.own.caller w.own) (read ws)
       → Parts shape cover setup (outline (read ws) records (set u.books v.own.caller w.own) taken_out updates) → CountsFit setup.first records (set u.books v.own.caller w.own)
       → Rule shape cover setup record { words = ws; homes = t.homes; views = set t.views id w }
-  stepped t u id v w at here ws wide records taken_out updates more_taken_out more_updates s places parts counts = record {
+  stepped t u id v w at here ws wide records taken_out updates more_taken_out more_updates s step steps drawn places parts counts = record {
     records = records;
     books = set u.books v.own.caller w.own;
     seats = u.seats;
@@ -214,17 +229,20 @@ module _ (shape : ShapeFacts) (cover : CoverFacts) (setup : Setup) where
     counts = counts;
     start_made = each_set (λ c b. b.guard.start_step ≤ length b.steps) u.books v.own.caller w.own u.start_made (s.start_made (u.start_made v.own.caller v.own (own_book setup u.books u.seats u.taken_out u.updates id v here (u.seated id v at)).0));
     made = each_set (λ c b. (n : ℕ) (t : Step) → At b.steps n t → StepFits setup c t) u.books v.own.caller w.own u.made (s.made (u.made v.own.caller v.own (own_book setup u.books u.seats u.taken_out u.updates id v here (u.seated id v at)).0));
+    seen = let now : ℕ = (read ws).drawn in let more : (c : ℕ) (b : Book) → At u.books c b → (n : ℕ) (x : Step) → At b.steps n x → FoundWithin now x = λ c b e n x i on. let h = u.seen c b e n x i on in let g = drawn.grows in omega arith in
+        each_set (λ c b. (n : ℕ) (x : Step) → At b.steps n x → FoundWithin now x) u.books v.own.caller w.own more
+        (λ n x e. each_more (FoundWithin now) v.own.steps step drawn.found (more v.own.caller v.own (own_book setup u.books u.seats u.taken_out u.updates id v here (u.seated id v at)).0) n x (ap (λ l. get_elem? l n) (sym steps) ∙ e));
     seated = seats_after setup u.books u.seats u.taken_out taken_out u.updates updates more_taken_out more_updates t.views id v w at here s u.seated;
   }
 
   -- the same after a step that changes nothing but words, records and the book of its caller, which answers no call
   pub rebuilt : (t : State (Unit {0}) View) (u : Rule shape cover setup t) (id : ℕ) (v : View) → get_elem? t.views id ≡ some v → v.present ≡ true
       → (ws : List ℕ) → length ws ≡ size setup.callers setup.records → (records : List Record) (own : Book) (step : Step) → StepFits setup v.own.caller step → own.caller ≡ v.own.caller → own.answered ≡ v.own.answered → own.guard ≡ v.own.guard → own.notes ≡ v.own.notes
-      → own.steps ≡ v.own.steps ++ step ∷ []
+      → own.steps ≡ v.own.steps ++ step ∷ [] → LeavesDrawn (read t.words).drawn (read ws).drawn step
       → Places setup records (set u.books v.own.caller own) (read ws)
       → Parts shape cover setup (outline (read ws) records (set u.books v.own.caller own) u.taken_out u.updates) → CountsFit setup.first records (set u.books v.own.caller own)
       → Rule shape cover setup record { words = ws; homes = t.homes; views = set t.views id (with_own v own) }
-  rebuilt t u id v at here ws wide records own step finds same calls guard notes steps places parts counts = let f = u.seated id v at in
+  rebuilt t u id v at here ws wide records own step finds same calls guard notes steps drawn places parts counts = let f = u.seated id v at in
       stepped t u id v (with_own v own) at here ws wide records u.taken_out u.updates (starts_itself u.taken_out) (starts_itself u.updates) record {
         setup = refl;
         present = here;
@@ -239,4 +257,4 @@ module _ (shape : ShapeFacts) (cover : CoverFacts) (setup : Setup) where
         behind = λ n a h. f.behind 0 n v.own a (ap (λ (l : List Book). get_elem? l 0) (carries_own v here)) (ap (λ l. get_elem? l n) (sym calls) ∙ h);
         made = λ h n a e. made_more setup v.own.caller v.own.steps step finds h n a (ap (λ l. get_elem? l n) (sym steps) ∙ e);
         start_made = λ h. subst (λ (z : ℕ × ℕ). z.0 ≤ z.1) (λ k. (sym (ap (λ (g : Guard). g.start_step) guard) k, sym (ap length steps) k)) (one_more v.own.guard.start_step v.own.steps step h);
-      } places parts counts
+      } step steps drawn places parts counts

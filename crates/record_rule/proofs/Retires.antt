@@ -28,7 +28,7 @@ use Rattle.record_rule.proofs.Owned.{share_of}
 use Rattle.record_rule.specs.Counts.{drawn_as, retired_as, freed_as}
 use Rattle.record_rule.specs.Kinds.{retired_one}
 use Rattle.record_rule.proofs.Counts.{Balances, counts_moved}
-use Rattle.record_rule.proofs.Rebuilt.{not_held, rebuilt}
+use Rattle.record_rule.proofs.Rebuilt.{not_held, elsewhere, rebuilt}
 use Rattle.record_rule.proofs.Quiet.{calm_after, outline_scheme}
 use Rattle.record_rule.proofs.Safe.{safe}
 use Rattle.record_rule.proofs.Steps.{before, book}
@@ -110,7 +110,8 @@ module _ (shape : ShapeFacts) (cover : CoverFacts) (covering : CoverLaws cover) 
 
   -- so the rule stays
   kept : Rule shape cover setup record { words = words; homes = s.homes; views = set s.views id (retired v r h stamp) }
-  kept = rebuilt shape cover setup s u id v at present words (length-set s.words (address setup.callers (Field i 2)) value ∙ u.wide) (set u.records (i - 1) new) own _ (not_held setup v.own.caller _ refl (inr (inl refl))) refl refl refl refl refl places
+  kept = rebuilt shape cover setup s u id v at present words (length-set s.words (address setup.callers (Field i 2)) value ∙ u.wide) (set u.records (i - 1) new) own _ (not_held setup v.own.caller _ refl (inr (inl refl))) refl refl refl refl refl
+      (elsewhere m.drawn m'.drawn _ (ap (λ (x : Memory). x.drawn) put_is) (λ e. cc)) places
       (subst (Parts shape cover setup) outline_is record {
         taken = u.parts.taken;
         held = u.parts.held;

@@ -11,7 +11,7 @@ use Rattle.record_rule.specs.Inputs.{taken_cell, answered_of, offer_of, Outline,
 use Rattle.record_rule.specs.Facts.{At, ShapeFacts, CoverFacts}
 use Rattle.record_rule.specs.Walks.{read_for, rows_ground}
 use Rattle.record_rule.specs.Taken.{TakenFits}
-use Rattle.record_rule.specs.Recorded.{StepFits}
+use Rattle.record_rule.specs.Recorded.{StepFits, FoundWithin}
 use Rattle.record_rule.specs.Histories.{HistoryFits, IsWaiting}
 use Rattle.record_rule.specs.World.{Places}
 use Rattle.record_rule.specs.PlaceCounts.{CountsAddUp}
@@ -44,6 +44,8 @@ pub record ClosedFits (s : ShapeFacts) (c : CoverFacts) (setup : Setup) (words :
   pub wide : length words ≡ size setup.callers setup.records
   -- each step that was recorded as one on a held record found its generation; that its caller held it then, the call says that made it
   pub found : (d : ℕ) (b : Book) → At books d b → (n : ℕ) (t : Step) → At b.steps n t → StepFits setup d t
+  -- each step on the word that counts the records drawn found no more there than it has now
+  pub seen : (d : ℕ) (b : Book) → At books d b → (n : ℕ) (t : Step) → At b.steps n t → FoundWithin (memory setup.callers setup.records words).drawn t
   -- each record is in one place, with the row and the generation that the words show, and with the callers that have it
   pub records : List Record
   pub placed : Places setup records books (memory setup.callers setup.records words)

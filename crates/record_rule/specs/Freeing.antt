@@ -1,5 +1,5 @@
 -- A load of a control word, after which records of the caller's limbo may be free.
-use Rattle.std.specs.Prelude.{◌≡◌, ℕ, ◌+◌, List, [], ◌∷◌, length, Bool, true, false, Option, Some, None, slice_index_or, ◌==◌, ◌&&◌, if◌then◌else◌}
+use Rattle.std.specs.Prelude.{◌≡◌, ℕ, ◌+◌, List, [], ◌∷◌, length, Bool, Option, Some, None, slice_index_or, ◌==◌, ◌&&◌, if◌then◌else◌}
 use Rattle.set_model.specs.declared.calls.Update.{Update}
 use Rattle.record_memory.specs.declared.books.View.{View}
 use Rattle.record_memory.specs.declared.books.Share.{Share}

@@ -1,5 +1,5 @@
 -- What is so of each step that a caller made.
-use Rattle.std.specs.Prelude.{◌≡◌, ℕ, ◌/◌, ◌⊎◌, Some}
+use Rattle.std.specs.Prelude.{◌≡◌, ℕ, ◌/◌, ◌≤◌, ◌⊎◌, Some}
 use Rattle.set_model.specs.declared.names.AllocatorName.TheVariants.{Bump, Once}
 use Rattle.record_memory.specs.declared.books.Setup.{Setup}
 use Rattle.record_memory.specs.declared.steps.Step.{Step}
@@ -27,3 +27,7 @@ pub record StepFits (setup : Setup) (c : ℕ) (t : Step) : Type 0 where
   pub word : (r : RefParts) → t.held ≡ Some r → (f : ℕ) × (t.word ≡ Field r.index f)
   pub own : (r : RefParts) → t.held ≡ Some r → own_in t.found ≡ r.generation
   pub left : (r : RefParts) → t.held ≡ Some r → own_in t.left ≡ r.generation
+
+-- if it was on the word that counts the records drawn, it found no more than this there
+abbrev pub FoundWithin : ℕ → Step → Type 0
+FoundWithin drawn t = t.word ≡ Drawn → t.found ≤ drawn

@@ -24,7 +24,7 @@ use Rattle.record_rule.specs.Facts.{At, ShapeFacts, CoverFacts}
 use Rattle.record_rule.specs.Taken.{TakenFits}
 use Rattle.record_rule.specs.Held.{HeldFits}
 use Rattle.record_rule.specs.Known.{KnownFits}
-use Rattle.record_rule.specs.Recorded.{StepFits}
+use Rattle.record_rule.specs.Recorded.{StepFits, FoundWithin}
 use Rattle.record_rule.specs.Histories.{HistoryFits, after}
 use Rattle.record_rule.specs.Counts.{CountsFit}
 
@@ -150,4 +150,6 @@ pub record Rule (s : ShapeFacts) (c : CoverFacts) (setup : Setup) (t : State (Un
   pub start_made : (c : ℕ) (b : Book) → At books c b → b.guard.start_step ≤ length b.steps
   -- each step on a held record found its generation
   pub made : (c : ℕ) (b : Book) → At books c b → (n : ℕ) (t : Step) → At b.steps n t → StepFits setup c t
+  -- and each on the word that counts the records drawn found no more there than is there now
+  pub seen : (c : ℕ) (b : Book) → At books c b → (n : ℕ) (step : Step) → At b.steps n step → FoundWithin (memory setup.callers setup.records t.words).drawn step
   pub seated : (j : ℕ) (v : View) → get_elem? t.views j ≡ some v → SeatFits setup books seats taken_out updates j v
