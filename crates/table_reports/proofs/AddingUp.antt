@@ -1,18 +1,17 @@
 -- The printed size and sum are those of the printed replies.
-use mathlib.Core.Option.{some, some-injective}
 use Rattle.std.proofs.Common.{◌≡◌, ℕ, ◌+◌, List, [], ◌∷◌, map, length, Some, slice_get, refl, sym, ap, ◌∙◌, subst, arith}
 use Rattle.std.specs.List.{count_by, sum_by}
 use Rattle.std.proofs.lemmas.List.{length-map}
 use Rattle.std.proofs.lemmas.List.Sums.{sum_by-cons}
 use Rattle.record_memory.specs.declared.books.Book.{Book}
-use Rattle.record_rule.specs.Facts.{At, ShapeFacts}
+use Rattle.record_rule.specs.Facts.{ShapeFacts}
 use Rattle.record_rule.proofs.Lists.{map_at}
 use Rattle.record_table.specs.Closing.{closed_books}
 use Rattle.record_table.specs.declared.closing.Closed.{Closed}
 use Rattle.report_text.specs.declared.report.Played.{Played}
 use Rattle.report_text.specs.declared.report.Report.{Report}
 use Rattle.key_sums.specs.declared.tallies.Tally.{Tally}
-use Rattle.key_sums.specs.Balances.{AreTalliesOf, AreBalanced, IsTallyOfBook}
+use Rattle.key_sums.specs.Balances.{AreTalliesOf, AreBalanced}
 use Rattle.key_sums.specs.Tallies.{IsTallyOf, is_addition, is_removal, key_sum}
 use Rattle.run_facts.proofs.AloneRuns.{at_got}
 use Rattle.set_model.specs.declared.calls.Call.{Call}
@@ -20,7 +19,7 @@ use Rattle.table_reports.specs.History.{IsOneHistory, IsPrintedOf}
 use Rattle.table_reports.specs.Reports.{TellsKeys, RepliesAddUp, printed_answers}
 
 -- what the printed replies of a caller add up to
-tally_of : Played → Tally
+abbrev tally_of : Played → Tally
 tally_of p = record {
   added = count_by is_addition (printed_answers p);
   removed = count_by is_removal (printed_answers p);

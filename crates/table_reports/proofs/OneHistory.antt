@@ -1,5 +1,5 @@
 -- From a run on a table to the one history of which its report tells.
-use Rattle.std.proofs.Common.{◌≡◌, ℕ, ◌<◌, List, [], ◌++◌, map, length, Some, slice_get, get_or, refl, sym, ap, ◌∙◌, subst, arith}
+use Rattle.std.proofs.Common.{◌≡◌, ℕ, ◌<◌, List, [], ◌++◌, map, length, Some, slice_get, sym, ap, ◌∙◌, subst, arith}
 use Rattle.std.proofs.lemmas.List.{append-nil, length-map}
 use Rattle.std.proofs.lemmas.Option.{slice_get-get_or, slice_get-map, slice_get_within}
 use Rattle.std.specs.Option.{option_map}
@@ -19,12 +19,11 @@ use Rattle.run_facts.specs.Replies.{with_replies}
 use Rattle.set_api.specs.declared.answer.Answer.{Answer}
 use Rattle.set_model.specs.declared.calls.Call.{Call}
 use Rattle.set_model.specs.declared.calls.Counts.{Counts}
-use Rattle.set_model.specs.declared.calls.Reply.{Reply}
 use Rattle.set_runs.specs.Playing.{phases_of}
 use Rattle.set_runs.specs.Runs.{IsSetRun}
 use Rattle.workload_text.proofs.Held.{some_is}
 use Rattle.workload_text.specs.Limits.{calls_of_all, joined}
-use Rattle.table_reports.specs.History.{IsOneHistory, IsPrintedOf}
+use Rattle.table_reports.specs.History.{IsOneHistory}
 
 -- where nothing waits behind the history, it is the whole
 whole : (s : ShapeFacts) (closed : Closed) → (waiting : List _) → waiting ≡ []

@@ -1,5 +1,5 @@
 -- What a report tells of the keys of a closed table.
-use Rattle.std.specs.Prelude.{◌≡◌, ℕ, ◌+◌, List, count_by, sum_by}
+use Rattle.std.specs.Prelude.{◌≡◌, ◌+◌, List, count_by, sum_by}
 use Rattle.key_sums.specs.Sums.{AreSums}
 use Rattle.key_sums.specs.Tallies.{is_addition, is_removal, key_sum}
 use Rattle.record_table.specs.Closing.{history_of}
