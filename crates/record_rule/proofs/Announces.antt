@@ -29,7 +29,7 @@ use Rattle.record_rule.specs.Recorded.{StepFits}
 use Rattle.record_rule.proofs.Lists.{below_at, one_at, map_set_same}
 use Rattle.record_rule.proofs.Fields.{places_beside}
 use Rattle.record_rule.proofs.Quiet.{places_calm, calm_after}
-use Rattle.record_rule.proofs.Rebuilt.{starts_itself, made_more, not_held, elsewhere, stepped}
+use Rattle.record_rule.proofs.Rebuilt.{starts_itself, made_more, no_field, elsewhere, stepped}
 use Rattle.record_rule.proofs.Counts.{counts_calm}
 use Rattle.record_rule.proofs.Steps.{before, given, book, are_whole, noted_within, recent_now, own_behind}
 use Rattle.record_rule.proofs.Safe.{safe}
@@ -192,7 +192,7 @@ module _ (shape : ShapeFacts) (cover : CoverFacts) (shaped : ShapeLaws shape) (c
 
   -- the step, and when the guard started
   made' : ((a : ℕ) (b : Step) → At v.own.steps a b → StepFits setup c b) → (a : ℕ) (b : Step) → At (v.own.steps ++ t ∷ []) a b → StepFits setup c b
-  made' h = made_more setup c v.own.steps t (not_held setup c t refl (inr (refl, omega arith))) h
+  made' h = made_more setup c v.own.steps t (no_field setup c t refl (inr (refl, omega arith)) (λ i f e. cc)) h
 
   started' : v.own.guard.start_step ≤ length v.own.steps → g'.start_step ≤ length (v.own.steps ++ t ∷ [])
   started' h = let l = length-append v.own.steps (t ∷ []) in ⊎_elim (λ a. let e = a.step_is in omega arith) (λ a. let e = a.step in omega arith) start_is

@@ -1,5 +1,5 @@
 -- A record that its caller has is own or spare, and goes from one to the other.
-use Rattle.std.proofs.Common.{◌++◌, ◌∷◌, [], inl, ◌≡◌, ℕ, ◌+◌, ◌-◌, ◌<◌, ◌≤◌, List, get_or, set, length-set, Bool, true, false, sym, refl, ap, ◌∙◌, subst, arith, Option, Some, None, get_or-set_same, get_or-set_other, inr}
+use Rattle.std.proofs.Common.{◌++◌, ◌∷◌, [], inl, ◌≡◌, ℕ, ◌+◌, ◌-◌, ◌<◌, ◌≤◌, List, length, get_or, set, length-set, Bool, true, false, sym, refl, ap, ◌∙◌, subst, arith, Option, Some, None, get_or-set_same, get_or-set_other}
 use Rattle.std.proofs.lemmas.List.{set-get_or}
 use mathlib.Core.Option.{some}
 use lib.ListN.{get_elem?}
@@ -31,12 +31,12 @@ use Rattle.record_rule.proofs.Owned.{share_of}
 use Rattle.record_memory.specs.declared.books.Moves.{Moves}
 use Rattle.record_rule.specs.Counts.{drawn_as, retired_had, retired_as, freed_had, freed_as}
 use Rattle.record_rule.proofs.Counts.{counts_moved, balances_same}
-use Rattle.record_rule.proofs.Rebuilt.{not_held, elsewhere, rebuilt}
+use Rattle.record_rule.proofs.Rebuilt.{elsewhere, rebuilt}
 use Rattle.record_rule.proofs.Quiet.{calm_after, IsSameBook, outline_after}
 use Rattle.record_rule.proofs.Steps.{book}
 use Rattle.record_rule.proofs.Fields.{with_word, Stores, owner_places}
 use Rattle.record_rule.proofs.HandingOut.{known_within}
-use Rattle.record_rule.proofs.Owners.{record_of, index_in, load_kept}
+use Rattle.record_rule.proofs.Owners.{record_of, index_in, load_fits, store_fits, load_kept}
 
 -- own or spare
 abbrev pub kept_as : Bool → Standing
@@ -166,6 +166,11 @@ module _ (shape : ShapeFacts) (cover : CoverFacts) (setup : Setup) (s : State (U
         (balances_same setup.first v.own.moves b.moves r new (ap (λ (z : Moves). z.drawn) moves) (ap (λ (z : Moves). z.reused) moves) (ap (λ (z : Moves). z.retired) moves) (ap (λ (z : Moves). z.freed) moves) refl
         (sym (ap drawn_as was_at)) (not_retired to ∙ sym (ap retired_as was_at ∙ not_retired from)) (not_freed to ∙ sym (ap freed_as was_at ∙ not_freed from))))
 
+  -- the store that sets an own record aside is a step that its caller may make
+  pub fits : (i value : ℕ) (h : Share) (r : Record) → 0 < i → get_elem? u.records (i - 1) ≡ some r → r.place ≡ Of c h.standing → h ≡ share_of h.standing r → h.standing ≡ Own → own_in value ≡ h.generation → StepFits setup c (field_store v i 1 value h)
+  fits i value h r pos there is whole was own = store_fits shape cover setup s u id v at present i 1 value h r pos there is whole (omega arith)
+      (subst (λ (q : Standing). 1 < length (known q r.row)) (sym was) (let e = (u.places.sound (i - 1) r there).eight in omega arith)) own
+
   -- the record that is read has the generation, holds a link, and is what its caller knows
   pub read : (i : ℕ) (h : Share) (r : Record) (n : ℕ) → get_elem? u.records (i - 1) ≡ some r → r.place ≡ Of c h.standing → h ≡ share_of h.standing r → h.standing ≡ Spare → n ≡ get_or r.row 1 0
       → (own_in n ≡ h.generation) × IsLinkIn 1 n × (n ≡ get_or h.words 1 0)
@@ -187,7 +192,7 @@ module _ (shape : ShapeFacts) (cover : CoverFacts) (setup : Setup) where
       let e : put_aside v i value ≡ put_aside_as v i value (Some h) = ap (put_aside_as v i value) mine in
       let b : Book = (put_aside_as v i value (Some h)).own in let same_book : IsSameBook v.own b = record { guard = refl; notes = refl; roots = refl; locks = refl; answered = refl; offer = refl } in
       let kept : Rule shape cover setup record { words = set s.words (address setup.callers (Field i 1)) value; homes = s.homes; views = set s.views id (put_aside_as v i value (Some h)) } =
-      move_kept shape cover setup s u id v at present true false i value h x.0 pos x.1 x.2 x.3 was own link b refl same_book (field_store v i 1 value h) (not_held setup v.own.caller (field_store v i 1 value h) refl (inr (inl refl))) (λ e. cc) refl
+      move_kept shape cover setup s u id v at present true false i value h x.0 pos x.1 x.2 x.3 was own link b refl same_book (field_store v i 1 value h) (fits shape cover setup s u id v at present i value h x.0 pos x.1 x.2 x.3 was own) (λ e. cc) refl
       (calm_after v.own.drawing v.setup.records (field_store v i 1 value h) tt) refl v.own.moves.births refl in (
         put_aside v i value,
         subst (λ (z : ℕ × View). Rule shape cover setup record { words = set s.words z.0 value; homes = s.homes; views = set s.views id z.1 }) (λ k. (sym is k, sym e k)) kept,
@@ -205,7 +210,7 @@ module _ (shape : ShapeFacts) (cover : CoverFacts) (setup : Setup) where
       let b : Book = (took_spare_as v i n (Some h)).own in let same_book : IsSameBook v.own b = record { guard = refl; notes = refl; roots = refl; locks = refl; answered = refl; offer = refl } in
       let words_stay : h.words ≡ set h.words 1 n = sym (ap (set h.words 1) f.2 ∙ set-get_or h.words 1 0) in
       let kept : Rule shape cover setup record { words = set s.words (address setup.callers (Field i 1)) n; homes = s.homes; views = set s.views id (took_spare_as v i n (Some h)) } =
-      move_kept shape cover setup s u id v at present false true i n h r pos x.1 x.2 x.3 was f.0 f.1 b refl same_book (field_load v i 1 n) (not_held setup v.own.caller (field_load v i 1 n) refl (inl refl)) (λ e. cc) refl (calm_after v.own.drawing v.setup.records (field_load v i 1 n) tt)
+      move_kept shape cover setup s u id v at present false true i n h r pos x.1 x.2 x.3 was f.0 f.1 b refl same_book (field_load v i 1 n) (load_fits shape cover setup s u id v at present i 1 n h.standing r x.1 x.2) (λ e. cc) refl (calm_after v.own.drawing v.setup.records (field_load v i 1 n) tt)
       (ap (λ (l : List ℕ). set v.own.mine (i - 1) (Some (record h { standing = Own; words = l }))) words_stay) (v.own.moves.births + 1) refl in (
         took_spare v i n,
         subst (λ (z : ℕ × View). Rule shape cover setup record { words = set s.words z.0 n; homes = s.homes; views = set s.views id z.1 }) (λ k. (sym is k, sym e k)) kept,

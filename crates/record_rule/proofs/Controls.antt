@@ -34,8 +34,8 @@ use Rattle.record_rule.specs.Links.{with_step}
 use Rattle.record_rule.specs.Freeing.{freed_from, LoadedControl}
 use Rattle.record_rule.proofs.Lists.{below_at, at_below, one_at, get_at, map_set_same}
 use Rattle.record_rule.proofs.Quiet.{same_overshoot, past_before, books_after, calm_after}
-use Rattle.record_rule.proofs.Rebuilt.{starts_itself, one_more, made_more, load_on, not_held, stepped}
-use Rattle.record_rule.proofs.Loads.{load_within}
+use Rattle.record_rule.proofs.Rebuilt.{starts_itself, one_more, made_more, stepped}
+use Rattle.record_rule.proofs.Loads.{load_within, control_fits}
 use Rattle.record_rule.specs.Kinds.{freed_more}
 use Rattle.record_rule.specs.Freeing.{count_freed}
 use Rattle.record_rule.proofs.FreedCounts.{counts_freed}
@@ -330,7 +330,7 @@ module _ (shape : ShapeFacts) (cover : CoverFacts) (shaped : ShapeLaws shape) (c
         more_noted = (omega arith, omega arith);
         recent = recent2 (length v.seen_updates) (length v.seen_taken_out);
         behind = own_behind shape cover setup s u id v at present;
-        made = λ h. made_more setup c v.own.steps t (not_held setup c t refl (load_on setup c (word_at v.setup.callers word))) h;
+        made = λ h. made_more setup c v.own.steps t (control_fits shape cover setup s u id v at present word) h;
         start_made = λ h. let k = one_more v.own.guard.start_step v.own.steps t h in let e : g2.start_step ≡ v.own.guard.start_step = same_holds.start.step ∙ has1.start.step in subst (λ (z : ℕ). z ≤ length (v.own.steps ++ t ∷ [])) (sym e) k;
       }
       t refl record { grows = omega arith; found = load_within setup s.words v word }

@@ -24,6 +24,7 @@ use Rattle.record_memory.proofs.Stores.{stores}
 use Rattle.record_rule.specs.Records.{Record, IsSetup, IsSound, share, share_at, carried}
 use Rattle.record_rule.specs.Inputs.{shape_at, scheme_at, taken_at, untaken}
 use Rattle.record_rule.specs.Facts.{ShapeFacts, CoverFacts}
+use Rattle.record_rule.specs.Recorded.{StepFits}
 use Rattle.record_rule.specs.World.{AreUntouched, Parts, IsLeftBy, IsLeft, overshoot_by, overshoot, Places, Rule}
 use Rattle.record_rule.specs.Kinds.{draw_step, drawn_share, drew, drawing_after, share_in, DrewNew, Lawful}
 use Rattle.record_rule.proofs.Lists.{below_at, at_below, get_at, each_set, map_set_same}
@@ -31,7 +32,7 @@ use Rattle.record_rule.proofs.Owned.{seen_by, unseen_by}
 use Rattle.record_memory.specs.declared.books.Moves.{Moves}
 use Rattle.record_rule.specs.Kinds.{drew_one}
 use Rattle.record_rule.proofs.Counts.{Balances, counts_calm, counts_moved, balances_drawn}
-use Rattle.record_rule.proofs.Rebuilt.{LeavesDrawn, not_held, rebuilt}
+use Rattle.record_rule.proofs.Rebuilt.{LeavesDrawn, no_field, rebuilt}
 use Rattle.record_rule.proofs.Steps.{book}
 use Rattle.record_rule.proofs.Quiet.{books_after, IsSameBook, outline_same, outline_after}
 
@@ -192,13 +193,17 @@ module _ (setup : Setup) (is_setup : IsSetup setup) (bump : setup.allocator ≡ 
       grew : LeavesDrawn m.drawn (memory setup.callers setup.records (set s.words 0 (n + 1))).drawn (draw_step v n)
       grew = let e = found in let then = ap (λ (x : Memory). x.drawn) stored in record { grows = omega arith; found = λ _. omega arith }
 
+      -- it is a step that its caller may make
+      drawn_fits : StepFits setup c (draw_step v n)
+      drawn_fits = no_field setup c (draw_step v n) refl (inr (refl, bump)) (λ i f e. cc)
+
       -- the rule stays where one was left
       draws_one : (own : Book) → own.caller ≡ c → IsSameBook v.own own → own.steps ≡ v.own.steps ++ draw_step v n ∷ [] → n < setup.records → own.mine ≡ set v.own.mine n (Some (drawn_share setup.first)) → own.drawing ≡ Unsure → own.moves ≡ drew_one v.own.moves → Kept s id v own
       draws_one own caller same steps lt mine_is drawing moves =
           let there = at_below u.records n (let k = u.places.many in omega arith) in let r : Record = there.0 in let new : Record = drawn_record c setup.first r in
           let untouched : r.place ≡ Undrawn = u.places.left n r there.1 (left_to m n (let e = found in omega arith)) in
           let weight : overshoot own ≡ overshoot v.own = ap overshoot_by drawing ∙ sym (ap overshoot_by below) in
-          rebuilt shape cover setup s u id v at present (set s.words 0 (n + 1)) wide (set u.records n new) own (draw_step v n) (not_held setup c (draw_step v n) refl (inr (refl, bump))) caller same.answered same.guard same.notes steps grew
+          rebuilt shape cover setup s u id v at present (set s.words 0 (n + 1)) wide (set u.records n new) own (draw_step v n) drawn_fits caller same.answered same.guard same.notes steps grew
           (subst (λ (x : Memory). Places setup (set u.records n new) (set u.books c own) x) (sym stored)
           (drawn_places u.records u.books m c n v.own own r u.places mine there.1 found lt caller mine_is weight (λ h. let no : ⊥ = (let e : Unsure ≡ Past = sym drawing ∙ h in cc) in no)))
           (subst (Parts shape cover setup) (sym (outline_after m (memory setup.callers setup.records (set s.words 0 (n + 1))) u.taken_out u.updates (ap (λ (x : Memory). x.epoch) stored) (ap (λ (x : Memory). x.announced) stored) u.books c v.own own mine same u.records n r new there.1 record {
@@ -211,7 +216,7 @@ module _ (setup : Setup) (is_setup : IsSetup setup) (bump : setup.allocator ≡ 
       -- and where none was
       draws_none : (own : Book) → own.caller ≡ c → IsSameBook v.own own → own.steps ≡ v.own.steps ++ draw_step v n ∷ [] → setup.records ≤ n → own.mine ≡ v.own.mine → own.drawing ≡ Past → own.moves ≡ v.own.moves → Kept s id v own
       draws_none own caller same steps past mine_is drawing moves =
-          rebuilt shape cover setup s u id v at present (set s.words 0 (n + 1)) wide u.records own (draw_step v n) (not_held setup c (draw_step v n) refl (inr (refl, bump))) caller same.answered same.guard same.notes steps grew
+          rebuilt shape cover setup s u id v at present (set s.words 0 (n + 1)) wide u.records own (draw_step v n) drawn_fits caller same.answered same.guard same.notes steps grew
           (subst (λ (x : Memory). Places setup u.records (set u.books c own) x) (sym stored)
           (passed_places u.records u.books m c n v.own own u.places mine found past caller mine_is (ap overshoot_by drawing) (ap overshoot_by below)))
           (subst (Parts shape cover setup) (sym (outline_same m (memory setup.callers setup.records (set s.words 0 (n + 1))) u.taken_out u.updates (ap (λ (x : Memory). x.epoch) stored) (ap (λ (x : Memory). x.announced) stored) u.books c v.own own mine same u.records)) u.parts)

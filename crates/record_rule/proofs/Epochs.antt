@@ -22,7 +22,7 @@ use Rattle.record_rule.proofs.Lists.{map_set_same}
 use Rattle.record_rule.proofs.Fields.{places_beside}
 use Rattle.record_rule.proofs.Quiet.{places_calm, calm_after}
 use Rattle.record_rule.proofs.Counts.{counts_calm}
-use Rattle.record_rule.proofs.Rebuilt.{not_held, elsewhere, rebuilt}
+use Rattle.record_rule.proofs.Rebuilt.{no_field, elsewhere, rebuilt}
 use Rattle.record_rule.proofs.Steps.{before, book, kept_calm}
 use Rattle.record_rule.proofs.Safe.{safe}
 
@@ -39,12 +39,12 @@ module _ (shape : ShapeFacts) (cover : CoverFacts) (covering : CoverLaws cover) 
       m = memory setup.callers setup.records s.words
 
       by : (b : Bool) → eqb (get_or s.words 1 0) old ≡ b → Rule shape cover setup record { words = set s.words 1 (cond b new (get_or s.words 1 0)); homes = s.homes; views = set s.views id (made_step v (control_step v Exchange 1 (get_or s.words 1 0) (cond b new (get_or s.words 1 0)))) }
-      by false e = kept_calm shape cover setup s u id v at present 1 (control_step v Exchange 1 (get_or s.words 1 0) (get_or s.words 1 0)) (not_held setup v.own.caller (control_step v Exchange 1 (get_or s.words 1 0) (get_or s.words 1 0)) refl (inr refl)) (λ e. let none : ⊥ = cc in absurd none) tt
+      by false e = let t : Step = control_step v Exchange 1 (get_or s.words 1 0) (get_or s.words 1 0) in kept_calm shape cover setup s u id v at present 1 t (no_field setup v.own.caller t refl (inr refl) (λ i f e. cc)) (λ e. let none : ⊥ = cc in absurd none) tt
       by true e = let n : ℕ = get_or s.words 1 0 in let t : Step = control_step v Exchange 1 n new in let own : Book = with_step v.own v.setup.records t in let c : ℕ = v.own.caller in let m0 : Memory = memory setup.callers setup.records s.words in
           let words' : List ℕ = set s.words 1 new in let m' : Memory = memory setup.callers setup.records words' in let was : Outline = before shape cover setup s u in let mine = book shape cover setup s u id v at present in
           let put_is : m' ≡ put m0 Epoch new = stores setup.callers setup.records s.words Epoch new u.wide tt in
           let found : m0.epoch ≡ old = sym (loads setup.callers setup.records s.words Epoch tt) ∙ eqb-true n old e in
-          rebuilt shape cover setup s u id v at present words' (length-set s.words 1 new ∙ u.wide) u.records own t (not_held setup c t refl (inr refl)) refl refl refl refl refl (elsewhere m0.drawn m'.drawn t (ap (λ (x : Memory). x.drawn) put_is) (λ e. cc))
+          rebuilt shape cover setup s u id v at present words' (length-set s.words 1 new ∙ u.wide) u.records own t (no_field setup c t refl (inr refl) (λ i f e. cc)) refl refl refl refl refl (elsewhere m0.drawn m'.drawn t (ap (λ (x : Memory). x.drawn) put_is) (λ e. cc))
           (subst (Places setup u.records (set u.books c own)) (sym put_is) (places_beside setup u.records (set u.books c own) m0 new m0.announced (places_calm setup u.records u.books m0 c v.own own mine refl refl (calm_after v.own.drawing v.setup.records t tt) u.places)))
           (subst (Parts shape cover setup) (λ k. record {
             shapes = was.shapes;

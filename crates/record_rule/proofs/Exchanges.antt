@@ -86,7 +86,7 @@ module _ (shape : ShapeFacts) (cover : CoverFacts) (setup : Setup) (is_setup : I
         (λ e. let x = made (ap link_in (sym found_is ∙ e) ∙ link_in-packed_link (generation_at setup o) old is_old) (ap own_in (sym e) ∙ found_own shape cover setup is_setup s u id v at present o n word f is high) in (x.0, x.1, λ _. x.2, λ ne. absurd (ne (e ∙ sym keyed))))
         (λ ne. (
           record v { own = with_step v.own v.setup.records t },
-          kept_calm shape cover setup s u id v at present word t (node_finds shape cover setup is_setup s u id v at present o n Exchange word f is high (inr (inr refl))) (λ e. let none : ⊥ = cc in absurd none) tt,
+          kept_calm shape cover setup s u id v at present word t (node_finds shape cover setup is_setup s u id v at present o n Exchange word f is high (inr refl)) (λ e. let none : ⊥ = cc in absurd none) tt,
           λ e. absurd (ne (e ∙ keyed)),
           λ _. record {
             link = found_link shape cover setup is_setup s u id v at present o n f found field found_is;
@@ -299,8 +299,8 @@ module _ (shape : ShapeFacts) (cover : CoverFacts) (setup : Setup) (is_setup : I
         let mine : List (Option Share) = v.own.mine in let w : View = view_after same holds new is_new call dec t mine u.records u.taken_out in (
           w,
           leaves same holds new is_new call dec t mine u.records u.taken_out old old_is n.there
-              (finds_held shape cover setup is_setup s u id v at present o Exchange f (link_word v.setup o old) (link_word v.setup o new) (subst (λ (z : Setup). own_in (link_word z o old) ≡ generation_at setup o) (sym same) own_is)
-              (subst (λ (z : Setup). own_in (link_word z o new) ≡ generation_at setup o) (sym same) (own_in-packed_link (generation_at setup o) new is_new)) (inr (inr refl))) (λ e. cc) (starts_itself u.taken_out)
+              (finds_held shape cover setup is_setup s u id v at present o n Exchange f (link_word v.setup o old) (link_word v.setup o new) (subst (λ (z : Setup). own_in (link_word z o old) ≡ generation_at setup o) (sym same) own_is)
+              (subst (λ (z : Setup). own_in (link_word z o new) ≡ generation_at setup o) (sym same) (own_in-packed_link (generation_at setup o) new is_new)) (inr refl)) (λ e. cc) (starts_itself u.taken_out)
               (places_calm setup u.records u.books m c v.own w.own own_place refl refl (calm_after v.own.drawing v.setup.records t tt) u.places) (counts_calm setup.first u.records u.books c v.own w.own own_place u.counts refl) u.parts.taken u.parts.held u.parts.scheme
               (shaped.exchanges setup (shape_input was) (trace was) record { caller = c; number = length v.own.answered + 1; near = near_of v o; field = f; old = old; call = call } new (given shape cover setup s u)
               (node_with shape cover setup is_setup s u id v at present o n f old low old_is) is_new may),

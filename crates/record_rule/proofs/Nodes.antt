@@ -1,5 +1,5 @@
 -- The node of a step: a root, or a record that its caller holds, is there as the caller knows it.
-use Rattle.std.proofs.Common.{◌≡◌, ℕ, ◌+◌, ◌-◌, ◌<◌, ◌≤◌, List, map, length, get_or, drop, true, sym, refl, ap, ◌∙◌, subst, arith, Some}
+use Rattle.std.proofs.Common.{◌≡◌, ℕ, ◌+◌, ◌-◌, ◌<◌, ◌≤◌, List, map, length, get_or, drop, true, sym, refl, ap, ◌∙◌, subst, arith, Some, ◌⊎◌, ⊎_elim, inl, inr}
 use Rattle.std.proofs.lemmas.List.{get_or-drop, length-drop}
 use mathlib.Core.Option.{some}
 use lib.ListN.{get_elem?}
@@ -28,8 +28,9 @@ use Rattle.record_rule.proofs.Owners.{load_kept}
 use Rattle.record_rule.proofs.HeldMoves.{HasBody, IsNode, fits_node}
 use Rattle.record_rule.proofs.Moves.{IsSeenOrRoot, whole}
 use Rattle.record_rule.proofs.Rebuilt.{not_held}
-use Rattle.record_rule.specs.Recorded.{IsStepOn, StepFits}
+use Rattle.record_rule.specs.Recorded.{IsRootIndex, LeavesWord, StepFits}
 use Rattle.record_memory.specs.declared.steps.StepKind.{StepKind}
+use Rattle.record_memory.specs.declared.steps.StepKind.TheVariants.{Load, Exchange}
 
 -- a word of a record, as one of its body
 pub body_word : (row : List ℕ) (f : ℕ) → 3 ≤ f → word_in (drop 3 row) f ≡ get_or row f 0
@@ -55,6 +56,15 @@ body_at generation m body Linked r h = record { generation_is = cc; body_is = cc
 body_at generation m body (Of c s) r h = body_had c generation m body s r h
 body_at generation m body p r h = let none : ⊥ = cc in absurd none
 
+-- the table has the root
+abbrev IsRooted : Setup → Origin → Type 0
+IsRooted setup (from_root n) = n < setup.roots
+IsRooted setup (from_place p r) = Unit {0}
+
+-- a step of one of these kinds on a root
+root_leaves : (setup : Setup) (i : ℕ) (kind : StepKind) (found left : ℕ) → IsRootIndex setup i → own_in found ≡ setup.first → own_in left ≡ setup.first → ((kind ≡ Load) × (left ≡ found)) ⊎ (kind ≡ Exchange) → LeavesWord setup i kind found left
+root_leaves setup i kind found left at_it own own_left = ⊎_elim (λ x. subst (λ (k : StepKind). LeavesWord setup i k found left) (sym x.0) (x.1, λ _. own)) (λ x. subst (λ (k : StepKind). LeavesWord setup i k found left) (sym x) (at_it, own, own_left))
+
 module _ (shape : ShapeFacts) (cover : CoverFacts) (setup : Setup) (is_setup : IsSetup setup) (t : State (Unit {0}) View) (u : Rule shape cover setup t) (id : ℕ) (v : View) (at : get_elem? t.views id ≡ some v) (present : v.present ≡ true) where
   -- how a set sees the records
   abbrev cells : List ShapeCell
@@ -65,6 +75,7 @@ module _ (shape : ShapeFacts) (cover : CoverFacts) (setup : Setup) (is_setup : I
     pub node : Record
     pub there : At u.records (index_of o - 1) node
     pub some_index : 0 < index_of o
+    pub rooted : IsRooted setup o
     pub seen : IsSeenOrRoot node.place
     pub generation : node.generation ≡ generation_at setup o
     pub fits : FitsNear shape cells (near_of v o) (index_of o - 1) node.generation (drop 3 node.row) node.marked
@@ -93,6 +104,7 @@ module _ (shape : ShapeFacts) (cover : CoverFacts) (setup : Setup) (is_setup : I
         node = r;
         there = here;
         some_index = omega arith;
+        rooted = low;
         seen = subst IsSeenOrRoot (sym is) tt;
         generation = (u.places.sound n r x.1).root_generation is;
         fits = subst (λ (z : ℕ). FitsNear shape cells (at_root n) z r.generation (drop 3 r.row) r.marked) (let e : n ≡ n + 1 - 1 = omega arith in e) (is_root n r.generation r.marked (drop 3 r.row) (at_map shape_cell u.records n r x.1 ∙ ap some cell));
@@ -107,6 +119,7 @@ module _ (shape : ShapeFacts) (cover : CoverFacts) (setup : Setup) (is_setup : I
         node = q;
         there = subst (λ (z : ℕ). At u.records z q) index there;
         some_index = let e = ap (λ (z : RefParts). z.index) n.reference in omega arith;
+        rooted = tt;
         seen = b.seen;
         generation = b.generation_is ∙ sym (ap (λ (z : RefParts). z.generation) n.reference);
         fits = subst (λ (z : ℕ × (ℕ × (List ℕ × ℕ))). FitsNear shape cells (at_held r (note_in v.own.notes p)) z.0 z.1.0 z.1.1.0 z.1.1.1) (λ k. (index k, (sym b.generation_is k, (sym b.body_is k, sym b.marked_is k)))) n.fits;
@@ -160,14 +173,19 @@ module _ (shape : ShapeFacts) (cover : CoverFacts) (setup : Setup) (is_setup : I
   found_own o n word f is high = ap own_in (found_word o n word f is high) ∙ (u.places.sound (index_of o - 1) n.node n.there).generations f high ∙ whole n.node.place n.node.generation f (λ d k e. subst IsSeenOrRoot e n.seen) ∙ n.generation
 
   -- so does a step that says it found a word with this generation, and left one
-  pub finds_held : (o : Origin) (kind : StepKind) (f found left : ℕ) → own_in found ≡ generation_at setup o → own_in left ≡ generation_at setup o → IsStepOn setup v.own.caller (Field (index_of o) f) kind → StepFits setup v.own.caller (node_step v kind o f found left)
-  finds_held (from_root m) kind f found left own own_left on = not_held setup v.own.caller (node_step v kind (from_root m) f found left) refl on
-  finds_held (from_place p r) kind f found left own own_left on = record {
-    kind = on;
+  pub finds_held : (o : Origin) → NodeOf o → (kind : StepKind) (f found left : ℕ) → own_in found ≡ generation_at setup o → own_in left ≡ generation_at setup o → ((kind ≡ Load) × (left ≡ found)) ⊎ (kind ≡ Exchange)
+      → StepFits setup v.own.caller (node_step v kind o f found left)
+  finds_held (from_root m) n kind f found left own own_left on = let low : m < setup.roots = n.rooted in let within : m < length u.records = below_at u.records m n.node (subst (λ (z : ℕ). At u.records z n.node) (let e : m + 1 - 1 ≡ m = omega arith in e) n.there) in
+      let at_it : IsRootIndex setup (m + 1) = (omega arith, omega arith, let e = u.places.many in omega arith) in
+      not_held setup v.own.caller (node_step v kind (from_root m) f found left) refl (⊎_elim (λ x. inl x.0) (λ x. inr (inr x)) on) (λ i g e. let same : m + 1 ≡ i = cc in
+      subst (λ (z : ℕ). LeavesWord setup z kind found left) same (root_leaves setup (m + 1) kind found left at_it own own_left on))
+  finds_held (from_place p r) n kind f found left own own_left on = record {
+    kind = ⊎_elim (λ x. inl x.0) (λ x. inr (inr x)) on;
     word = λ q e. let same : r ≡ q = cc in (f, ap (λ (z : RefParts). Field z.index f) same);
     own = λ q e. let same : r ≡ q = cc in own ∙ ap (λ (z : RefParts). z.generation) same;
     left = λ q e. let same : r ≡ q = cc in own_left ∙ ap (λ (z : RefParts). z.generation) same;
+    unheld = λ e. let wrong : ⊥ = cc in absurd wrong;
   }
 
-  pub node_finds : (o : Origin) (n : NodeOf o) (kind : StepKind) (word f : ℕ) → word ≡ address setup.callers (Field (index_of o) f) → f < 8 → IsStepOn setup v.own.caller (Field (index_of o) f) kind → StepFits setup v.own.caller (node_step v kind o f (get_or t.words word 0) (get_or t.words word 0))
-  node_finds o n kind word f is high on = let own = found_own o n word f is high in finds_held o kind f (get_or t.words word 0) (get_or t.words word 0) own own on
+  pub node_finds : (o : Origin) (n : NodeOf o) (kind : StepKind) (word f : ℕ) → word ≡ address setup.callers (Field (index_of o) f) → f < 8 → (kind ≡ Load) ⊎ (kind ≡ Exchange) → StepFits setup v.own.caller (node_step v kind o f (get_or t.words word 0) (get_or t.words word 0))
+  node_finds o n kind word f is high on = let own = found_own o n word f is high in finds_held o n kind f (get_or t.words word 0) (get_or t.words word 0) own own (⊎_elim (λ x. inl (x, refl)) inr on)

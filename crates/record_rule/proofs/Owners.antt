@@ -1,7 +1,8 @@
 -- The owner's loads and stores in a record keep the rule.
-use Rattle.std.proofs.Common.{inl, ◌≡◌, ℕ, ◌+◌, ◌-◌, ◌<◌, ◌≤◌, List, [], map, length, get_or, take, set, length-set, Bool, true, cond, sym, refl, ap, ◌∙◌, subst, arith, Option, Some, get_or-set_other, inr}
+use Rattle.std.proofs.Common.{inl, ◌≡◌, ℕ, zero, suc, ◌⊎◌, ⊎_elim, ltb, false, ◌+◌, ◌-◌, ◌<◌, ◌≤◌, List, [], map, length, get_or, take, set, length-set, Bool, true, cond, sym, refl, ap, ◌∙◌, subst, arith, Option, Some, get_or-set_other, inr}
 use Rattle.std.proofs.lemmas.Bool.{eq-eqb}
 use Rattle.std.proofs.lemmas.List.{get_or-take, length-take}
+use native.Mathlib.Decide.{dec_le}
 use mathlib.Core.Logic.{dite}
 use mathlib.Core.Option.{some}
 use lib.ListN.{get_elem?}
@@ -14,14 +15,15 @@ use Rattle.record_memory.specs.declared.books.Share.{Share}
 use Rattle.record_memory.specs.declared.books.Standing.{Standing}
 use Rattle.record_memory.specs.declared.books.Standing.TheVariants.{Handing, Own, Spare, TakenOut, Limbo, Free, Spent}
 use Rattle.record_memory.specs.declared.books.Place.{Place}
-use Rattle.record_memory.specs.declared.books.Place.TheVariants.{Of}
+use Rattle.record_memory.specs.declared.books.Place.TheVariants.{Root, Of}
 use Rattle.record_memory.specs.Memory.{Memory, memory, address, word_at, put, row_at}
 use Rattle.record_memory.proofs.Stores.{loads, stores, word_at-field}
-use Rattle.row_words.specs.Packing.{number_in, IsPackedLink}
-use Rattle.record_rule.specs.Records.{Record, known, share}
+use Rattle.row_words.specs.Packing.{number_in, own_in, IsPackedLink}
+use Rattle.record_rule.specs.Records.{Record, known, carried_by, carried, share}
 use Rattle.record_rule.specs.Inputs.{shape_cell, shape_at, SchemeInput, unseen, unpublished, scheme_cell, scheme_at, scheme_had, taken_cell, taken_at, scheme_input, guard_of, Outline, outline}
 use Rattle.record_rule.specs.Facts.{ShapeFacts, CoverFacts}
 use Rattle.record_rule.specs.Laws.{CoverLaws}
+use Rattle.record_rule.specs.Recorded.{StepFits}
 use Rattle.record_rule.specs.World.{Places, Parts, Rule}
 use Rattle.record_rule.specs.Kinds.{field_store, field_load, stored_as, stored, loaded, share_in, share_after, standing_after, EndsHanding, MayStoreAs, MayStore, IsKnownAs, IsKnown, IsOverAs, IsOver, Lawful}
 use Rattle.record_rule.proofs.Lists.{below_at, get_at, map_at}
@@ -64,6 +66,16 @@ stored_part Limbo row f eight may below = let l = length-take 3 row in omega ari
 stored_part Free row f eight may below = let l = length-take 3 row in omega arith
 stored_part Spent row f eight may below = absurd may
 
+-- the generation of a record is the one that a word of its owner's carries, or the next one
+carried_or_next : (q : Standing) (generation f : ℕ) → (generation ≡ carried_by q generation f) ⊎ (generation ≡ carried_by q generation f + 1)
+carried_or_next (Handing n) generation f = by (ltb f n) generation
+  where
+    by : (b : Bool) (g : ℕ) → (g ≡ cond b g (g - 1)) ⊎ (g ≡ cond b g (g - 1) + 1)
+    by true g = inl refl
+    by false zero = inl refl
+    by false (suc g) = inr (omega arith)
+carried_or_next q generation f = inl refl
+
 -- once it is handed out, it has the birth that it was given
 ended_cell : (c : ℕ) (q : Standing) (r : Record) (f value : ℕ) → EndsHanding q → MayStoreAs q f → scheme_cell (with_word c (standing_after q) r f value) ≡ unpublished c r.generation (number_in (get_or r.row 0 0))
 ended_cell c (Handing n) r f value e h = ap (λ (b : Bool). scheme_had c (cond b Own (Handing (n + 1))) (with_word c (cond b Own (Handing (n + 1))) r f value)) (eq-eqb n 7 e)
@@ -93,6 +105,30 @@ module _ (shape : ShapeFacts) (cover : CoverFacts) (setup : Setup) (s : State (U
   -- the record's index is within the table
   pub index_in : (i : ℕ) (r : Record) → 0 < i → get_elem? u.records (i - 1) ≡ some r → i ≤ setup.records
   index_in i r pos there = let h = below_at u.records (i - 1) r there in let k = u.places.many in omega arith
+
+  -- a record that a caller has is no root
+  above_roots : (i : ℕ) (q : Standing) (r : Record) → 0 < i → get_elem? u.records (i - 1) ≡ some r → r.place ≡ Of c q → setup.roots < i
+  above_roots i q r pos there is = dite (dec_le setup.roots (i - 1)) (λ le. omega arith)
+      (λ low. let root : Of c q ≡ Root = sym is ∙ (u.places.sound (i - 1) r there).roots (omega arith) in let wrong : ⊥ = cc in absurd wrong)
+
+  -- so a load of a word of it is a step that its caller may make
+  pub load_fits : (i f n : ℕ) (q : Standing) (r : Record) → get_elem? u.records (i - 1) ≡ some r → r.place ≡ Of c q → StepFits setup c (field_load v i f n)
+  load_fits i f n q r there is = not_held setup c (field_load v i f n) refl (inl refl) (λ j g e. (
+    refl,
+    λ root. let same : i ≡ j = cc in let pos : 0 < j = root.0 in let low : j ≤ setup.roots = root.1 in let high : setup.roots < i = above_roots i q r (omega arith) there is in let wrong : ⊥ = omega arith in absurd wrong,
+  ))
+
+  -- and so is a store over what its caller knows of a word of it
+  pub store_fits : (i f value : ℕ) (h : Share) (r : Record) → 0 < i → get_elem? u.records (i - 1) ≡ some r → r.place ≡ Of c h.standing → h ≡ share_of h.standing r → f < 8 → f < length (known h.standing r.row) → own_in value ≡ h.generation
+      → StepFits setup c (field_store v i f value h)
+  store_fits i f value h r pos there is whole below within own = let high : setup.roots < i = above_roots i h.standing r pos there is in
+      let left : own_in value ≡ r.generation = own ∙ ap (λ (x : Share). x.generation) whole in
+      let found : own_in (get_or h.words f 0) ≡ carried_by h.standing r.generation f = ap (λ (x : Share). own_in (get_or x.words f 0)) whole ∙ ap own_in (sym (known_part h.standing r.row f within))
+      ∙ (u.places.sound (i - 1) r there).generations f below ∙ ap (λ (p : Place). carried p r.generation f) is in
+      not_held setup c (field_store v i f value h) refl (inr (inl refl)) (λ j g e. (
+        let same : i ≡ j = cc in omega arith,
+        ⊎_elim (λ a. inl (left ∙ a ∙ sym found)) (λ a. inr (left ∙ a ∙ ap (λ (z : ℕ). z + 1) (sym found))) (carried_or_next h.standing r.generation f),
+      ))
 
   -- the view and the words after a store
   abbrev after : ℕ → ℕ → ℕ → Share → View
@@ -162,7 +198,7 @@ module _ (shape : ShapeFacts) (cover : CoverFacts) (setup : Setup) (s : State (U
     -- so the rule stays where the facts hold
     kept_with : Parts shape cover setup now → Kept i f value h
     kept_with parts = rebuilt shape cover setup s u id v at present (words_after i f value) (length-set s.words (address setup.callers (Field i f)) value ∙ u.wide) (set u.records (i - 1) new) (after i f value h).own _
-        (not_held setup v.own.caller _ refl (inr (inl refl))) refl refl refl refl refl (elsewhere m.drawn _ _ (ap (λ (x : Memory). x.drawn) stored_words) (λ e. cc)) places_after parts
+        (store_fits i f value h r pos there is whole may.below (stored_part h.standing r.row f (u.places.sound (i - 1) r there).eight may.field may.below) may.own) refl refl refl refl refl (elsewhere m.drawn _ _ (ap (λ (x : Memory). x.drawn) stored_words) (λ e. cc)) places_after parts
         (counts_moved setup.first u.records u.books c v.own (after i f value h).own own_there u.counts (i - 1) r new there (balances_stored setup.first c h.standing v.own.moves r new is refl refl))
 
     -- the store that ends a handing out
@@ -235,6 +271,6 @@ module _ (shape : ShapeFacts) (cover : CoverFacts) (laws : CoverLaws cover) (set
       let found : n ≡ get_or r.row f 0 = ap (λ (z : ℕ). get_or s.words z 0) is ∙ load_kept shape cover setup s u id v at present i f r pos below x.1 in
       let known_link : f ≡ 1 → IsPackedLink n = λ one. subst IsPackedLink (sym (found ∙ ap (λ (z : ℕ). get_or r.row z 0) one)) ((u.places.sound (i - 1) r x.1).links 1 (inl refl)).0 in (
         loaded v i f n,
-        kept_calm shape cover setup s u id v at present word (field_load v i f n) (not_held setup v.own.caller (field_load v i f n) refl (inl refl)) (λ e. let none : ⊥ = cc in absurd none) tt,
+        kept_calm shape cover setup s u id v at present word (field_load v i f n) (load_fits shape cover setup s u id v at present i f n h.standing r x.1 x.2) (λ e. let none : ⊥ = cc in absurd none) tt,
         (refl, subst (λ (o : Option Share). IsKnownAs o f n) (sym mine) (found ∙ known_there h r f x.3 lt, known_link)),
       )

@@ -9,7 +9,7 @@ use Rattle.record_memory.specs.declared.steps.Step.{Step}
 use Rattle.record_memory.specs.declared.books.Setup.{Setup}
 use Rattle.record_memory.specs.declared.books.View.{View}
 use Rattle.record_memory.specs.declared.books.Answered.{Answered}
-use Rattle.record_memory.specs.Memory.{Memory, memory, word_at}
+use Rattle.record_memory.specs.Memory.{Memory, memory}
 use Rattle.record_rule.specs.Inputs.{guard_of, notes_of, roots_of, locks_of, answered_of, offer_of, Outline}
 use Rattle.record_rule.specs.Facts.{ShapeFacts, CoverFacts}
 use Rattle.record_rule.specs.Machines.{replies_for}
@@ -21,8 +21,8 @@ use Rattle.record_rule.specs.Placing.{placed_view, MayPlace}
 use Rattle.record_rule.proofs.Lists.{map_set_same}
 use Rattle.record_rule.proofs.Counts.{counts_calm}
 use Rattle.record_rule.proofs.Quiet.{calm_after, places_calm}
-use Rattle.record_rule.proofs.Rebuilt.{starts_itself, one_more, made_more, load_on, not_held, stepped}
-use Rattle.record_rule.proofs.Loads.{load_within}
+use Rattle.record_rule.proofs.Rebuilt.{starts_itself, one_more, made_more, stepped}
+use Rattle.record_rule.proofs.Loads.{load_within, control_fits}
 use Rattle.record_rule.proofs.Steps.{before, book, own_behind}
 use Rattle.record_rule.proofs.HistoryMoves.{reads, free_by}
 use Rattle.record_rule.proofs.Seats.{at_end}
@@ -58,7 +58,7 @@ module _ (shape : ShapeFacts) (cover : CoverFacts) (setup : Setup) where
               recent = λ h. h;
               behind = λ k b e. ⊎_elim (λ x. let z = own_behind shape cover setup s u id v at present k b x in let y = may.behind in omega arith) (λ x. let z = ap after x.1 in omega arith) (at_end v.own.answered a b k e);
               start_made = one_more v.own.guard.start_step v.own.steps t;
-              made = made_more setup c v.own.steps t (not_held setup c t refl (load_on setup c (word_at v.setup.callers word)));
+              made = made_more setup c v.own.steps t (control_fits shape cover setup s u id v at present word);
             }
             t refl record { grows = omega arith; found = load_within setup s.words v word }
             (places_calm setup u.records u.books m c v.own w.own mine refl refl (calm_after v.own.drawing v.setup.records t tt) u.places)

@@ -22,7 +22,7 @@ use Rattle.record_memory.specs.declared.books.Answered.{Answered}
 use Rattle.record_rule.specs.Histories.{after}
 use Rattle.record_rule.specs.World.{StartsWith, carried_if, carries, IsRecent, SeatFits, Places, Parts, Rule}
 use Rattle.record_rule.specs.Counts.{CountsFit}
-use Rattle.record_rule.specs.Recorded.{IsStepOn, StepFits, FoundWithin}
+use Rattle.record_rule.specs.Recorded.{IsStepOn, LeavesWord, StepFits, FoundWithin}
 use Rattle.record_memory.specs.declared.steps.Word.{Word}
 use Rattle.record_memory.specs.declared.steps.Word.TheVariants.{Drawn, Epoch, Lock, Blank, Shelf, Announced, Cursor, Field}
 use Rattle.record_memory.specs.declared.steps.StepKind.TheVariants.{Load}
@@ -169,14 +169,19 @@ load_on setup c (Cursor d) = inl refl
 load_on setup c (Field i f) = inl refl
 
 -- a step on no held record
-pub not_held : (setup : Setup) (c : ℕ) (t : Step) → t.held ≡ None → IsStepOn setup c t.word t.kind → StepFits setup c t
-not_held setup c t none on = record {
+pub not_held : (setup : Setup) (c : ℕ) (t : Step) → t.held ≡ None → IsStepOn setup c t.word t.kind → ((i f : ℕ) → t.word ≡ Field i f → LeavesWord setup i t.kind t.found t.left) → StepFits setup c t
+not_held setup c t none on leaves = record {
   kind = on;
   word = λ r e. let no_such : None ≡ Some r = sym none ∙ e in let wrong : ⊥ = cc in absurd wrong;
   own = λ r e. let no_such : None ≡ Some r = sym none ∙ e in
       let wrong : ⊥ = cc in absurd wrong;
   left = λ r e. let no_such : None ≡ Some r = sym none ∙ e in let wrong : ⊥ = cc in absurd wrong;
+  unheld = λ _. leaves;
 }
+
+-- as one on no record's word is
+pub no_field : (setup : Setup) (c : ℕ) (t : Step) → t.held ≡ None → IsStepOn setup c t.word t.kind → ((i f : ℕ) → ¬ (t.word ≡ Field i f)) → StepFits setup c t
+no_field setup c t none on other = not_held setup c t none on (λ i f e. absurd (other i f e))
 
 -- a step that was made still was, after one more
 pub one_more : (n : ℕ) (steps : List Step) (t : Step) → n ≤ length steps → n ≤ length (steps ++ t ∷ [])

@@ -1,5 +1,6 @@
 -- A record that its caller took out is put away: its stamp is stored, and from then on it is in limbo.
-use Rattle.std.proofs.Common.{◌≡◌, ℕ, ◌-◌, ◌<◌, ◌^◌, List, get_or, set, length-set, true, sym, refl, ap, ◌∙◌, subst, arith, Option, Some, inl, inr}
+use Rattle.std.proofs.Common.{◌≡◌, ℕ, ◌-◌, ◌<◌, ◌^◌, List, length, get_or, set, length-set, true, sym, refl, ap, ◌∙◌, subst, arith, Option, Some}
+use Rattle.std.proofs.lemmas.List.{length-take}
 use mathlib.Core.Option.{some}
 use lib.ListN.{get_elem?}
 use Rattle.atomic_table.specs.Table.{State}
@@ -17,7 +18,8 @@ use Rattle.record_memory.proofs.Stores.{stores, take-set}
 use Rattle.row_words.specs.Refs.{RefParts}
 use Rattle.row_words.specs.Packing.{packed_number}
 use Rattle.row_words.proofs.Packed.{own_in-packed_number, number_in-packed_number}
-use Rattle.record_rule.specs.Records.{Record}
+use Rattle.record_rule.specs.Records.{Record, known}
+use Rattle.record_rule.specs.Recorded.{StepFits}
 use Rattle.record_rule.specs.Inputs.{SchemeInput, SchemeCell, limbo, birth, scheme_cell, scheme_input, guard_of, Outline, outline}
 use Rattle.record_rule.specs.Facts.{ShapeFacts, CoverFacts}
 use Rattle.record_rule.specs.Laws.{CoverLaws}
@@ -28,11 +30,11 @@ use Rattle.record_rule.proofs.Owned.{share_of}
 use Rattle.record_rule.specs.Counts.{drawn_as, retired_as, freed_as}
 use Rattle.record_rule.specs.Kinds.{retired_one}
 use Rattle.record_rule.proofs.Counts.{Balances, counts_moved}
-use Rattle.record_rule.proofs.Rebuilt.{not_held, elsewhere, rebuilt}
+use Rattle.record_rule.proofs.Rebuilt.{elsewhere, rebuilt}
 use Rattle.record_rule.proofs.Quiet.{calm_after, outline_scheme}
 use Rattle.record_rule.proofs.Safe.{safe}
 use Rattle.record_rule.proofs.Steps.{before, book}
-use Rattle.record_rule.proofs.Owners.{record_of, index_in, finds_known}
+use Rattle.record_rule.proofs.Owners.{record_of, index_in, store_fits, finds_known}
 use Rattle.record_rule.proofs.Moves.{retired_record, retired_places, retired_cells}
 
 -- a step of the caller that took the record out and has its share, with a stamp that the reclaimer allows
@@ -69,6 +71,10 @@ module _ (shape : ShapeFacts) (cover : CoverFacts) (covering : CoverLaws cover) 
   -- one word of the table is another one
   put_is : m' ≡ put m (Field i 2) value
   put_is = stores setup.callers setup.records s.words (Field i 2) value u.wide (some_index, index_in shape cover setup s u id v at present i node some_index there, omega arith)
+
+  -- its standing
+  standing : h.standing ≡ TakenOut
+  standing = ap (λ (x : Share). x.standing) whole
 
   -- the caller's share is the record's
   share_is : retired_share h value ≡ share_of Limbo new
@@ -108,9 +114,15 @@ module _ (shape : ShapeFacts) (cover : CoverFacts) (covering : CoverLaws cover) 
   retires_one = let a : drawn_as node.place ≡ 1 = ap drawn_as is in let b : retired_as node.place ≡ 0 = ap retired_as is in let d : freed_as node.place ≡ 0 = ap freed_as is in
       record { drawn = omega arith; reused = omega arith; retired = omega arith; freed = omega arith }
 
+  -- it is a step that its caller may make
+  fits : StepFits setup c (field_store v i 2 value h)
+  fits = store_fits shape cover setup s u id v at present i 2 value h node some_index there (is ∙ ap (Of c) (sym standing)) (whole ∙ ap (λ (q : Standing). share_of q node) (sym standing)) (omega arith)
+      (subst (λ (q : Standing). 2 < length (known q node.row)) (sym standing) (let e = (u.places.sound (i - 1) node there).eight in let l = length-take 3 node.row in omega arith))
+      (own_in-packed_number r.generation stamp small ∙ sym generation)
+
   -- so the rule stays
   kept : Rule shape cover setup record { words = words; homes = s.homes; views = set s.views id (retired v r h stamp) }
-  kept = rebuilt shape cover setup s u id v at present words (length-set s.words (address setup.callers (Field i 2)) value ∙ u.wide) (set u.records (i - 1) new) own _ (not_held setup v.own.caller _ refl (inr (inl refl))) refl refl refl refl refl
+  kept = rebuilt shape cover setup s u id v at present words (length-set s.words (address setup.callers (Field i 2)) value ∙ u.wide) (set u.records (i - 1) new) own _ fits refl refl refl refl refl
       (elsewhere m.drawn m'.drawn _ (ap (λ (x : Memory). x.drawn) put_is) (λ e. cc)) places
       (subst (Parts shape cover setup) outline_is record {
         taken = u.parts.taken;

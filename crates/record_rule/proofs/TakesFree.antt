@@ -35,11 +35,11 @@ use Rattle.record_rule.proofs.Quiet.{calm_after, same_overshoot, books_after, pa
 use Rattle.record_memory.specs.declared.books.Moves.{Moves}
 use Rattle.record_rule.specs.Counts.{was_drawn, drawn_as, retired_as, freed_as}
 use Rattle.record_rule.proofs.Counts.{Balances, counts_moved}
-use Rattle.record_rule.proofs.Rebuilt.{not_held, elsewhere, rebuilt}
+use Rattle.record_rule.proofs.Rebuilt.{elsewhere, rebuilt}
 use Rattle.record_rule.proofs.Steps.{before, book}
 use Rattle.record_rule.proofs.HandingOut.{known_within}
 use Rattle.record_rule.proofs.Moves.{places_after}
-use Rattle.record_rule.proofs.Owners.{record_of, load_kept}
+use Rattle.record_rule.proofs.Owners.{record_of, load_fits, load_kept}
 
 module _ (setup : Setup) (takings : List TakenCell) (taken_out : List RefParts) (i generation k : ℕ) (fits : TakenFits setup takings taken_out) (at : At takings i (was_taken generation k)) where
   -- the record's cell at its next generation
@@ -164,7 +164,7 @@ module _ (shape : ShapeFacts) (cover : CoverFacts) (setup : Setup) (s : State (U
   -- so the rule stays
   kept : (word : ℕ) → Rule shape cover setup record { words = set s.words word (get_or s.words word 0); homes = s.homes; views = set s.views id (took_free v r has.share node.row) }
   kept word = subst (λ (ws : List ℕ). Rule shape cover setup record { words = ws; homes = s.homes; views = set s.views id (took_free v r has.share node.row) }) (sym (set-get_or s.words word 0))
-      (rebuilt shape cover setup s u id v at present s.words u.wide (set u.records i new) own _ (not_held setup v.own.caller _ refl (inl refl)) refl refl refl refl refl (elsewhere m.drawn m.drawn _ refl (λ e. cc))
+      (rebuilt shape cover setup s u id v at present s.words u.wide (set u.records i new) own _ (load_fits shape cover setup s u id v at present r.index 1 (get_or node.row 1 0) Free node there is) refl refl refl refl refl (elsewhere m.drawn m.drawn _ refl (λ e. cc))
       (renewed_places setup u.records u.books m c i v.own own node u.places (book shape cover setup s u id v at present) there is refl (ap (λ (x : Share). set v.own.mine i (Some x)) share_is)
       (calm_after v.own.drawing v.setup.records (field_load v r.index 1 (get_or node.row 1 0)) tt))
       (subst (Parts shape cover setup) outline_is record {

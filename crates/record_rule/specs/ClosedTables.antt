@@ -42,7 +42,7 @@ pub record ClosedFits (s : ShapeFacts) (c : CoverFacts) (setup : Setup) (words :
   pub set_is : setup.set ≡ s.name
   pub reclaimer_is : setup.reclaimer ≡ c.name
   pub wide : length words ≡ size setup.callers setup.records
-  -- each step that was recorded as one on a held record found its generation; that its caller held it then, the call says that made it
+  -- each recorded step found and left what it may by its word and its kind, and one on a held record its generation; that its caller held it then, the call says that made it
   pub found : (d : ℕ) (b : Book) → At books d b → (n : ℕ) (t : Step) → At b.steps n t → StepFits setup d t
   -- each step on the word that counts the records drawn found no more there than it has now
   pub seen : (d : ℕ) (b : Book) → At books d b → (n : ℕ) (t : Step) → At b.steps n t → FoundWithin (memory setup.callers setup.records words).drawn t

@@ -1,10 +1,10 @@
 -- What is so of each step that a caller made.
-use Rattle.std.specs.Prelude.{◌≡◌, ℕ, ◌/◌, ◌≤◌, ◌⊎◌, Some}
+use Rattle.std.specs.Prelude.{◌≡◌, ℕ, ◌+◌, ◌/◌, ◌<◌, ◌≤◌, ◌⊎◌, Some, None}
 use Rattle.set_model.specs.declared.names.AllocatorName.TheVariants.{Bump, Once}
 use Rattle.record_memory.specs.declared.books.Setup.{Setup}
 use Rattle.record_memory.specs.declared.steps.Step.{Step}
 use Rattle.record_memory.specs.declared.steps.StepKind.{StepKind}
-use Rattle.record_memory.specs.declared.steps.StepKind.TheVariants.{Load, Store, Add, Exchange}
+use Rattle.record_memory.specs.declared.steps.StepKind.TheVariants.{Load, Store, Swap, Add, Exchange}
 use Rattle.record_memory.specs.declared.steps.Word.{Word}
 use Rattle.record_memory.specs.declared.steps.Word.TheVariants.{Drawn, Epoch, Lock, Blank, Shelf, Announced, Cursor, Field}
 use Rattle.row_words.specs.Refs.{RefParts}
@@ -21,12 +21,27 @@ IsStepOn setup c (Announced j) k = (k ≡ Load) ⊎ ((k ≡ Store) × (j / 4 ≡
 IsStepOn setup c (Cursor d) k = (k ≡ Load) ⊎ ((k ≡ Store) × (d ≡ c) × (setup.allocator ≡ Once))
 IsStepOn setup c (Field i f) k = (k ≡ Load) ⊎ ((k ≡ Store) ⊎ (k ≡ Exchange))
 
+-- the record with this index is a root that the table has
+abbrev pub IsRootIndex : Setup → ℕ → Type 0
+IsRootIndex setup i = (0 < i) × (i ≤ setup.roots) × (i ≤ setup.records)
+
+-- What a step that names no held record found and left in a word of record i, by its kind. A load left what it found, and in a root that had the first generation.
+-- A store was in no root, and left the generation that it found or, where a record is handed out, the next one. An exchange was in a root, and found and left the first generation
+abbrev pub LeavesWord : Setup → ℕ → StepKind → ℕ → ℕ → Type 0
+LeavesWord setup i Load found left = (left ≡ found) × (IsRootIndex setup i → own_in found ≡ setup.first)
+LeavesWord setup i Store found left = (setup.roots < i) × ((own_in left ≡ own_in found) ⊎ (own_in left ≡ own_in found + 1))
+LeavesWord setup i Swap found left = ⊥
+LeavesWord setup i Add found left = ⊥
+LeavesWord setup i Exchange found left = IsRootIndex setup i × (own_in found ≡ setup.first) × (own_in left ≡ setup.first)
+
 pub record StepFits (setup : Setup) (c : ℕ) (t : Step) : Type 0 where
   pub kind : IsStepOn setup c t.word t.kind
   -- a step on a held record was on a word of it, and found and left its generation there
   pub word : (r : RefParts) → t.held ≡ Some r → (f : ℕ) × (t.word ≡ Field r.index f)
   pub own : (r : RefParts) → t.held ≡ Some r → own_in t.found ≡ r.generation
   pub left : (r : RefParts) → t.held ≡ Some r → own_in t.left ≡ r.generation
+  -- one that names no held record was a load, a store in no root, or an exchange in a root
+  pub unheld : t.held ≡ None → (i f : ℕ) → t.word ≡ Field i f → LeavesWord setup i t.kind t.found t.left
 
 -- if it was on the word that counts the records drawn, it found no more than this there
 abbrev pub FoundWithin : ℕ → Step → Type 0

@@ -148,7 +148,7 @@ pub record Rule (s : ShapeFacts) (c : CoverFacts) (setup : Setup) (t : State (Un
   pub counts : CountsFit setup.first records books
   -- no guard started at a step that is still to come
   pub start_made : (c : ℕ) (b : Book) → At books c b → b.guard.start_step ≤ length b.steps
-  -- each step on a held record found its generation
+  -- each step found and left what it may by its word and its kind, and on a held record its generation
   pub made : (c : ℕ) (b : Book) → At books c b → (n : ℕ) (t : Step) → At b.steps n t → StepFits setup c t
   -- and each on the word that counts the records drawn found no more there than is there now
   pub seen : (c : ℕ) (b : Book) → At books c b → (n : ℕ) (step : Step) → At b.steps n step → FoundWithin (memory setup.callers setup.records t.words).drawn step
