@@ -2,149 +2,15 @@
 // in Rust with std alone, to measure them beside it. The words behind `generate` are four numbers:
 // callers, calls of each, keys and seed.
 
-use std::io::{self, BufWriter, Read, Write};
+#[path = "plain/report.rs"]
+mod report;
+#[path = "plain/workload.rs"]
+mod workload;
+
+use report::{print_report, Left};
+use std::io::{self, BufWriter, Write};
 use std::process::ExitCode;
-
-const MOST_BYTES: u64 = 67_108_864;
-const MOST_CALLERS: u64 = 64;
-const MOST_CALLS: usize = 1_000_000;
-const MOST_PHASE_LINES: usize = 1_000;
-const MOST_KEY: u64 = 1_099_511_627_773;
-const MOST_DIGITS: usize = 13;
-
-#[derive(Clone, Copy)]
-enum Call {
-    Insert(u64),
-    Remove(u64),
-    Search(u64),
-}
-
-impl Call {
-    fn letter_and_key(self) -> (char, u64) {
-        match self {
-            Call::Insert(key) => ('i', key),
-            Call::Remove(key) => ('r', key),
-            Call::Search(key) => ('s', key),
-        }
-    }
-}
-
-/// The calls of one caller, and how many of them come before each phase but the first.
-#[derive(Default)]
-struct Caller {
-    calls: Vec<Call>,
-    cuts: Vec<usize>,
-}
-
-impl Caller {
-    fn phase(&self, phase: usize) -> &[Call] {
-        let start = if phase == 0 { 0 } else { self.cuts[phase - 1] };
-        let end = self.cuts.get(phase).copied().unwrap_or(self.calls.len());
-        &self.calls[start..end]
-    }
-}
-
-struct Workload {
-    version: u64,
-    callers: Vec<Caller>,
-}
-
-impl Workload {
-    fn total(&self) -> usize {
-        self.callers.iter().map(|caller| caller.calls.len()).sum()
-    }
-
-    fn phases(&self) -> usize {
-        self.callers[0].cuts.len()
-    }
-}
-
-/// The number up to `most` that these digits write, without a leading zero. None where they write none.
-fn number_of(digits: &[u8], most: u64) -> Option<u64> {
-    if digits.is_empty() || digits.len() > MOST_DIGITS || (digits[0] == b'0' && digits.len() > 1) {
-        return None;
-    }
-    let mut number = 0;
-    for digit in digits {
-        if !digit.is_ascii_digit() {
-            return None;
-        }
-        number = number * 10 + u64::from(digit - b'0');
-    }
-    (number <= most).then_some(number)
-}
-
-/// The call of a line without its line feed.
-fn call_of(line: &[u8]) -> Option<Call> {
-    match line {
-        [b'i', b' ', digits @ ..] => number_of(digits, MOST_KEY).map(Call::Insert),
-        [b'r', b' ', digits @ ..] => number_of(digits, MOST_KEY).map(Call::Remove),
-        [b's', b' ', digits @ ..] => number_of(digits, MOST_KEY).map(Call::Search),
-        _ => None,
-    }
-}
-
-/// The lines of bytes, each without its line feed. What stands behind the last line feed is left.
-struct Lines<'a> {
-    rest: &'a [u8],
-}
-
-impl<'a> Iterator for Lines<'a> {
-    type Item = &'a [u8];
-
-    fn next(&mut self) -> Option<&'a [u8]> {
-        let feed = self.rest.iter().position(|byte| *byte == b'\n')?;
-        let line = &self.rest[..feed];
-        self.rest = &self.rest[feed + 1..];
-        Some(line)
-    }
-}
-
-/// The number up to `most` of a line that begins with this word and a blank.
-fn numbered(line: &[u8], word: &[u8], most: u64) -> Option<u64> {
-    number_of(line.strip_prefix(word)?.strip_prefix(b" ")?, most)
-}
-
-/// The workload whose text the bytes are. None where they are none.
-fn workload_of(bytes: &[u8]) -> Option<Workload> {
-    let mut lines = Lines { rest: bytes };
-    let version = numbered(lines.next()?, b"setbench", 2).filter(|version| *version > 0)?;
-    let wanted = numbered(lines.next()?, b"callers", MOST_CALLERS).filter(|count| *count > 0)?;
-    numbered(lines.next()?, b"caller", 0)?;
-    let mut callers: Vec<Caller> = Vec::new();
-    let (mut caller, mut total) = (Caller::default(), 0);
-    loop {
-        let line = lines.next()?;
-        if let Some(call) = call_of(line) {
-            if total == MOST_CALLS {
-                return None;
-            }
-            total += 1;
-            caller.calls.push(call);
-            continue;
-        }
-        let most = callers.first().map_or(MOST_PHASE_LINES, |first| first.cuts.len());
-        if line == b"phase" {
-            if version == 1 || caller.cuts.len() == most {
-                return None;
-            }
-            caller.cuts.push(caller.calls.len());
-            continue;
-        }
-        if !callers.is_empty() && caller.cuts.len() != most {
-            return None;
-        }
-        callers.push(std::mem::take(&mut caller));
-        let due = callers.len() as u64;
-        if line == b"end" {
-            let is_whole = due == wanted && lines.rest.is_empty();
-            return is_whole.then_some(Workload { version, callers });
-        }
-        if due == wanted || numbered(line, b"caller", MOST_CALLERS)? != due {
-            return None;
-        }
-    }
-}
+use workload::{print_sizes, read_workload, Call, Caller, Workload};
 
 /// O'Neill's PCG with 64 bits of state and words of 32 bits (XSH RR).
 struct Pcg {
@@ -209,14 +75,6 @@ fn print_workload(out: &mut impl Write, workload: &Workload) -> io::Result<()> {
     writeln!(out, "end")
 }
 
-fn print_sizes(out: &mut impl Write, workload: &Workload) -> io::Result<()> {
-    write!(out, "ok callers {} calls {}", workload.callers.len(), workload.total())?;
-    if workload.version == 2 {
-        write!(out, " phases {}", workload.phases())?;
-    }
-    writeln!(out)
-}
-
 /// Plays a call over the keys, which rise, and answers it.
 fn apply(keys: &mut Vec<u64>, call: Call) -> bool {
     match call {
@@ -238,8 +96,8 @@ fn apply(keys: &mut Vec<u64>, call: Call) -> bool {
     }
 }
 
-/// The replies to each caller, and the keys that are left.
-fn played(workload: &Workload) -> (Vec<Vec<bool>>, Vec<u64>) {
+/// The replies to each caller, and what is left.
+fn played(workload: &Workload) -> Left {
     let mut keys = Vec::new();
     let room = |caller: &Caller| Vec::with_capacity(caller.calls.len());
     let mut replies: Vec<Vec<bool>> = workload.callers.iter().map(room).collect();
@@ -248,40 +106,17 @@ fn played(workload: &Workload) -> (Vec<Vec<bool>>, Vec<u64>) {
             replies.extend(caller.phase(phase).iter().map(|call| apply(&mut keys, *call)));
         }
     }
-    (replies, keys)
-}
-
-fn print_report(out: &mut impl Write, workload: &Workload) -> io::Result<()> {
-    let (replies, keys) = played(workload);
-    let (callers, total) = (workload.callers.len(), workload.total());
-    writeln!(out, "set plain reclaimer none callers {callers} calls {total}")?;
-    for (number, (caller, replies)) in workload.callers.iter().zip(&replies).enumerate() {
-        writeln!(out, "caller {number}")?;
-        for (call, reply) in caller.calls.iter().zip(replies) {
-            let (letter, key) = call.letter_and_key();
-            let reply = if *reply { "yes" } else { "no" };
-            writeln!(out, "{letter} {key} {reply}")?;
-        }
-    }
-    writeln!(out, "size {} sum {}", keys.len(), keys.iter().sum::<u64>())?;
-    writeln!(out, "records drawn 0 reused 0 retired 0 freed 0 limbo 0 free 0 spare 0 spent 0")
-}
-
-fn read_workload() -> Result<Workload, u8> {
-    let mut bytes = Vec::new();
-    let mut input = io::stdin().take(MOST_BYTES + 1);
-    input.read_to_end(&mut bytes).map_err(|_| 6)?;
-    if bytes.len() as u64 > MOST_BYTES {
-        return Err(9);
-    }
-    workload_of(&bytes).ok_or(3)
+    Left { replies, size: keys.len() as u64, sum: keys.iter().sum(), records: [0; 3] }
 }
 
 fn run(words: &[String]) -> Result<(), u8> {
     let mut out = BufWriter::new(io::stdout().lock());
     let printed = match words.first().map(String::as_str) {
         Some("check") => print_sizes(&mut out, &read_workload()?),
-        Some("play") => print_report(&mut out, &read_workload()?),
+        Some("play") => {
+            let workload = read_workload()?;
+            print_report(&mut out, "plain", &workload, &played(&workload))
+        }
         Some("generate") => {
             let numbers: Vec<u64> = words[1..].iter().filter_map(|word| word.parse().ok()).collect();
             print_workload(&mut out, &generated(numbers.try_into().map_err(|_| 2)?))
