@@ -5,10 +5,13 @@ use crate::report::Answered;
 use crate::run::Run;
 use std::collections::{BTreeMap, BTreeSet};
 
-/// How many beginnings of an order are tried for one key in one phase, at most.
-const MOST_OF_A_KEY: usize = 100_000;
+/// How many beginnings of an order that lead nowhere are tried for one key in one phase, at most, and how many in the whole
+/// run, until only so few are tried for each further key.
+const MOST_OF_A_KEY: usize = 200_000;
+const MOST_OF_A_RUN: usize = 4_000_000;
+const FEW: usize = 1_000;
 /// And for all keys of a phase together.
-const MOST_OF_ALL: usize = 2_000;
+const MOST_OF_ALL: usize = 4_000;
 /// All keys together are searched only in runs of so many calls.
 const MOST_CALLS: usize = 4_000;
 
@@ -63,7 +66,8 @@ fn whole_order(phase: &[Vec<Answered>], present: &BTreeSet<u64>) -> Order {
     };
     let callers: Vec<Vec<Step>> = phase.iter().map(|own| own.iter().map(step_of).collect()).collect();
     let present: Vec<bool> = keys.iter().map(|key| present.contains(key)).collect();
-    order_of(&callers, &present, MOST_OF_ALL)
+    let mut most = MOST_OF_ALL;
+    order_of(&callers, &present, &mut most)
 }
 
 /// Judges each phase from the keys on that the one before it left.
@@ -71,6 +75,7 @@ pub fn judged(run: &Run) -> Result<Judged, String> {
     let is_small = run.all().count() <= MOST_CALLS;
     let (mut all, mut given_up) = (BTreeSet::new(), BTreeSet::new());
     let mut present = BTreeSet::new();
+    let mut left_to_try = MOST_OF_A_RUN;
     let mut whole = if is_small { "yes" } else { "open" };
     for (number, phase) in run.phases.iter().enumerate() {
         let mut left = present.clone();
@@ -78,7 +83,11 @@ pub fn judged(run: &Run) -> Result<Judged, String> {
             let is_there = present.contains(&key);
             let is_left = left_by(&callers, is_there)
                 .ok_or_else(|| format!("key {key}: what was added and taken away in phase {number} can't alternate"))?;
-            match order_of(&callers, &[is_there], MOST_OF_A_KEY) {
+            let most = left_to_try.clamp(FEW, MOST_OF_A_KEY);
+            let mut left_of_key = most;
+            let order = order_of(&callers, &[is_there], &mut left_of_key);
+            left_to_try = left_to_try.saturating_sub(most - left_of_key);
+            match order {
                 Order::Found => {}
                 Order::Open if counts_allow(&callers, is_there) => {
                     given_up.insert(key);

@@ -82,19 +82,19 @@ impl Walk<'_> {
     }
 }
 
-/// Searches from these keys on, and gives up where so many beginnings were found to lead nowhere.
-fn search(callers: &[Vec<Step>], present: &[bool], first: First, most: usize) -> Order {
+/// Searches from these keys on, and gives up where so many beginnings were found to lead nowhere. Also says how many were.
+fn search(callers: &[Vec<Step>], present: &[bool], first: First, most: usize) -> (Order, usize) {
     let total: usize = callers.iter().map(Vec::len).sum();
     let mut walk = Walk { callers, at: vec![0; callers.len()], present: present.to_vec(), taken: Vec::new() };
     walk.take_reads();
     let mut dead = HashSet::new();
     let mut open = vec![(walk.taken.len(), walk.choices(first))];
     while walk.taken.len() < total {
-        let Some((steps, choices)) = open.last_mut() else { return Order::None };
+        let Some((steps, choices)) = open.last_mut() else { return (Order::None, dead.len()) };
         walk.go_back(*steps);
         let Some(caller) = choices.pop() else {
             if dead.len() == most {
-                return Order::Open;
+                return (Order::Open, most);
             }
             dead.insert(walk.at.clone());
             open.pop();
@@ -106,15 +106,21 @@ fn search(callers: &[Vec<Step>], present: &[bool], first: First, most: usize) ->
             open.push((walk.taken.len(), walk.choices(first)));
         }
     }
-    Order::Found
+    (Order::Found, dead.len())
 }
 
-/// Whether there is an order that begins with these keys.
-pub fn order_of(callers: &[Vec<Step>], present: &[bool], most: usize) -> Order {
-    match search(callers, present, First::Longest, most) {
-        Order::Open => search(callers, present, First::Lowest, most),
-        found => found,
+/// Whether there is an order that begins with these keys. The search is given up where it came to so many beginnings that
+/// lead nowhere as `most` has, which loses as many as it came to.
+pub fn order_of(callers: &[Vec<Step>], present: &[bool], most: &mut usize) -> Order {
+    let mut order = Order::Open;
+    for first in [First::Longest, First::Lowest] {
+        if order == Order::Open {
+            let (found, tried) = search(callers, present, first, *most / 2);
+            *most -= tried;
+            order = found;
+        }
     }
+    order
 }
 
 /// What has to be so of one key, by counting alone: wherever a caller found the key other than it had left it, another
