@@ -1,5 +1,5 @@
 // What its callers do beside the three calls: they hold records, are counted, meet, and end the table.
-ghost use Rattle.std.specs.Prelude.{◌≡◌, ◌<◌, All, map};
+ghost use Rattle.std.specs.Prelude.{◌≡◌, ◌<◌, ◌⊎◌, All, map};
 ghost use Rattle.row_words.specs.declared.links.Freed.{Freed};
 ghost use Rattle.record_rule.specs.World.{StartsWith};
 ghost use Rattle.list_facts.specs.Michael.{michael};
@@ -69,6 +69,7 @@ impl<R: Scheme, A: Allocator, P: Pool> MichaelHash<R, A, P> {
         ensures unchanged { view from.new.pass ≡ view from.old.pass }
         ensures own { StartsWith (view into.new.pass).front (view into.old.pass).front }
         ensures met { StartsWith (view into.new.pass).front (view from.old.pass).front }
+        ensures longer { ((view into.new.pass).front ≡ (view into.old.pass).front) ⊎ ((view into.new.pass).front ≡ (view from.old.pass).front) }
         ensures rest { view into.new.pass ≡ record (view into.old.pass) { front = (view into.new.pass).front } }
     {
         self.lists.meet(from, into);

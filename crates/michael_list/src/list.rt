@@ -195,6 +195,7 @@ impl<R: Scheme, A: Allocator, P: Pool> MichaelList<R, A, P> {
         ensures unchanged { view from.new.pass ≡ view from.old.pass }
         ensures own { StartsWith (view into.new.pass).front (view into.old.pass).front }
         ensures met { StartsWith (view into.new.pass).front (view from.old.pass).front }
+        ensures longer { ((view into.new.pass).front ≡ (view into.old.pass).front) ⊎ ((view into.new.pass).front ≡ (view from.old.pass).front) }
         ensures rest { view into.new.pass ≡ record (view into.old.pass) { front = (view into.new.pass).front } }
     {
         self.manager.meet(from, into);
