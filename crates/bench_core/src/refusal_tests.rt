@@ -82,7 +82,7 @@ const WORDS: [&str; 63] = [
     "play --set michael --reclaimer none --records 63",
     "play --set michael --reclaimer none --records 007",
     // What isn't built yet.
-    "play --set michael --reclaimer none",
+    "play --set michael --reclaimer hazard",
     "play --set michael --reclaimer debra --records 64",
     "play --set lazy --reclaimer none",
     "trial --set lazy --reclaimer debra --callers 2 --calls 0 --keys 1 --seed 7",

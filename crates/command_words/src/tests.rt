@@ -149,7 +149,7 @@ const REFUSED: [&str; 9] = [
     "check --set plain",
     "play --set plain --reclaimer none --records 1048576",
     "play --set michael --reclaimer none --records 63",
-    "trial --set michael --reclaimer none --callers 2 --calls 0 --keys 1 --seed 7",
+    "trial --set michael --reclaimer debra --callers 2 --calls 0 --keys 1 --seed 7",
     "play --set plain --reclaimer none --allocator once",
 ];
 

@@ -134,3 +134,32 @@ fn of_64_buckets_each_key_has_its_own(rt: HostRuntime) -> Result<(), Fail> {
     assert_eq!(rt; sums, (2, 1_099_511_627_773));
     Ok(())
 }
+
+// Behind keys 1 and 2 a call makes a third hop to see the end of the list.
+#[test]
+fn no_call_makes_a_hop_beyond_its_budget(rt: HostRuntime) -> Result<(), Fail> {
+    let first = Generation::new(1).ok_or("one")?;
+    let (hash, callers) = TestHash::prepare(rt.alloc(), 4, 1, first, 1)?;
+    let mut caller = only(&hash, callers).ok_or("one caller")?;
+    let answers = [
+        play(&hash, &mut caller, Call::Insert(1), 1),
+        play(&hash, &mut caller, Call::Insert(2), 2),
+        play(&hash, &mut caller, Call::Search(2), 1),
+        play(&hash, &mut caller, Call::Search(2), 2),
+        play(&hash, &mut caller, Call::Insert(3), 2),
+        play(&hash, &mut caller, Call::Insert(3), 0),
+    ];
+    let told = [
+        Answer::Done(true),
+        Answer::Done(true),
+        Answer::Again { hops: 1 },
+        Answer::Done(true),
+        Answer::Again { hops: 2 },
+        Answer::Again { hops: 0 },
+    ];
+    assert_eq!(rt; answers, told);
+    let counts = ConcurrentSet::counts(&hash, &caller);
+    assert_eq!(rt; (counts.drawn, counts.spare), (2, 0));
+    assert_eq!(rt; sums(rt.alloc(), hash, caller)?, (2, 3));
+    Ok(())
+}

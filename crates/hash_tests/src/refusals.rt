@@ -56,3 +56,18 @@ fn each_bucket_takes_a_record(rt: HostRuntime) -> Result<(), Fail> {
     assert_eq!(rt; refusal(rt.alloc(), 64, 1, first, 64), None);
     Ok(())
 }
+
+#[test]
+fn a_table_has_1_to_1048575_records(rt: HostRuntime) -> Result<(), Fail> {
+    let first = Generation::new(1).ok_or("one")?;
+    for (records, callers) in [(0, 1), (0, 0), (1_048_576, 1), (1_048_576, 65)] {
+        assert_eq!(rt;
+            refusal(rt.alloc(), records, callers, first, 1),
+            Some(PrepareError::Records),
+            "{records}"
+        );
+    }
+    assert_eq!(rt; refusal(rt.alloc(), 1, 1, first, 1), None);
+    assert_eq!(rt; refusal(rt.alloc(), 1_048_575, 1, first, 1), None);
+    Ok(())
+}
