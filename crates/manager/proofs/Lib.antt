@@ -16,6 +16,7 @@ pub mod Owns
 pub mod StepKeeps
 pub mod MoveCounts
 pub mod ChainCounts
+pub mod Stocks
 pub mod Sums
 pub mod CallerSums
 pub mod MeetingAll

@@ -1,5 +1,5 @@
 -- How the next record was got, or why there was none.
-use Rattle.std.proofs.Common.{◌≡◌, ℕ, List, Result, Ok, Err, refl, true, false}
+use Rattle.std.proofs.Common.{◌≡◌, ℕ, ◌+◌, List, Result, Ok, Err, refl, ap, ◌∙◌, true, false}
 use Rattle.std.specs.Prelude.{MatchResult}
 use Rattle.record_memory.specs.declared.steps.Step.{Step}
 use Rattle.record_memory.specs.declared.books.Setup.{Setup}
@@ -13,6 +13,8 @@ use Rattle.pool.specs.declared.Taken.TheVariants.{Some as Took, None as FoundNon
 use Rattle.record_pieces.specs.Manners.{Manner}
 use Rattle.record_pieces.specs.Events.{Gets, from_draw, FindsNone}
 use Rattle.record_rule.specs.Kinds.{idle}
+use Rattle.record_rule.specs.Standings.{is_free, is_spare}
+use Rattle.reclaim_api.specs.Frames.{had}
 use Rattle.manager.specs.Manners.{draws_by, refuses_by, takes_by}
 
 module _ (shelves : ℕ) (busy : List Step → Type 0) (k : Setup) (v w : View) (setup : v.setup ≡ k) where
@@ -26,8 +28,15 @@ module _ (shelves : ℕ) (busy : List Step → Type 0) (k : Setup) (v w : View) 
 
 -- a draw when there was none
 pub drew_next : (m : Manner) (draws : View → RefParts → View → Type 0) (refuses : View → ℕ → View → Type 0) (k : Setup) (b : Book) (u w : View) → u.setup ≡ k
-    → ((r : RefParts) → draws_by draws k u.own r w.own → m.draws k u.own r w.own) → ((n : ℕ) → refuses_by refuses k u.own n w.own → m.refuses k u.own n w.own) → m.takes k b false u.own → idle b ≡ 0
-    → (o : Result RefParts NoRecord) → MatchResult o (λ r. draws u r w) (λ none. refuses u none.found w)
+    → ((r : RefParts) → draws_by draws k u.own r w.own → m.draws k u.own r w.own) → ((n : ℕ) → refuses_by refuses k u.own n w.own → m.refuses k u.own n w.own) → m.takes k b false u.own
+    → idle b ≡ 0 → had is_free b ≡ 0 → had is_spare w.own ≡ had is_spare b → u.own.moves.drawn ≡ b.moves.drawn
+    → (o : Result RefParts NoRecord) → MatchResult o (λ r. draws u r w) (λ none. refuses u none.found w) → MatchResult o (λ _. w.own.moves.drawn ≡ u.own.moves.drawn + 1) (λ _. w.own.moves.drawn ≡ u.own.moves.drawn)
     → MatchResult o (λ r. Gets m k b r w.own) (λ none. FindsNone m k b none.found w.own)
-drew_next m draws refuses k b u w setup some gone none empty (Ok r) d = from_draw u.own w.own none (some r (u, w, record { setup = setup; before = refl; after = refl }, d))
-drew_next m draws refuses k b u w setup some gone none empty (Err e) d = record { idle_is = empty; between = u.own; took = none; refused = gone e.found (u, w, record { setup = setup; before = refl; after = refl }, d) }
+drew_next m draws refuses k b u w setup some gone none empty free spare as_before (Ok r) d drawn = from_draw u.own w.own free none (some r (u, w, record { setup = setup; before = refl; after = refl }, d)) (drawn ∙ ap (λ (n : ℕ). n + 1) as_before)
+drew_next m draws refuses k b u w setup some gone none empty free spare as_before (Err e) d drawn = record {
+  idle_is = empty;
+  between = u.own;
+  took = none;
+  refused = gone e.found (u, w, record { setup = setup; before = refl; after = refl }, d);
+  stock = record { spare = spare; drawn = drawn ∙ as_before };
+}

@@ -1,5 +1,5 @@
 -- A caller after a step on a word of a root, of a record that it holds or of an own one.
-use Rattle.std.proofs.Common.{◌≡◌, ℕ, ◌-◌, ◌<◌, ◌≤◌, List, [], ◌∷◌, ◌++◌, length, length-append, get_or, set, Option, Some, None, Result, Ok, Err, sym, ap, ◌∙◌, subst, arith}
+use Rattle.std.proofs.Common.{◌≡◌, ℕ, ◌-◌, ◌<◌, ◌≤◌, List, [], ◌∷◌, ◌++◌, length, length-append, get_or, set, Option, Some, None, Result, Ok, Err, sym, refl, ap, ◌∙◌, subst, arith}
 use Rattle.std.specs.Prelude.{MatchResult}
 use Rattle.set_model.specs.declared.calls.Call.{Call}
 use Rattle.record_memory.specs.declared.steps.Step.{Step}
@@ -23,12 +23,14 @@ use Rattle.record_table.specs.Nodes.{IsRefused}
 use Rattle.reclaim_api.specs.Guarding.{IsInside}
 use Rattle.reclaim_api.specs.Frames.{GoesOn, SamePart, in_away}
 use Rattle.reclaim_api.proofs.Kept.{Stays, chain_stays, goes_on}
+use Rattle.record_pieces.specs.Events.{KeepsStock}
 use Rattle.manager.specs.Callers.{HasChains}
 use Rattle.manager.proofs.OneShare.{AwayStays}
 use Rattle.manager.proofs.MoveCounts.{AreSameMoves, same_moves, counted_still}
 use Rattle.manager.specs.declared.types.Moved.{Moved}
 use Rattle.manager.specs.Counted.{AreCounted}
 use Rattle.manager.proofs.Stay.{mine_stays}
+use Rattle.manager.proofs.Stocks.{spares_kept}
 use Rattle.manager.proofs.Entries.{IsAloof, entry_stays, entry_limbo, entry_idle}
 
 -- the step leaves what is in limbo and the records in chains, and the guard is the same or started with it
@@ -45,7 +47,7 @@ pub record LeavesAll (c : CoverFacts) (v w : View) : Type 0 where
 grows : (b c : List Step) (t : Step) → c ≡ b ++ t ∷ [] → length b ≤ length c
 grows b c t e = let l = length-append b (t ∷ []) in let f = ap (λ (x : List Step). length x) e in omega arith
 
--- so its caller is inside as before, and its chains are the same lists
+-- so its caller is inside as before, its chains are the same lists, and as many records are spare
 module _ {S R L : Type 0} {c : CoverFacts} (is_local : L → View → Type 0) (p q : Pass S R) (same : IsSamePass p q) (l : L) (free spare : Chain) (stays : (l : L) (v w : View) → SamePart c v w → is_local l v → is_local l w) (leaves : LeavesAll c (view p) (view q)) where
   pub inside_still : IsInside p → IsInside q
   inside_still h = record {
@@ -60,6 +62,9 @@ module _ {S R L : Type 0} {c : CoverFacts} (is_local : L → View → Type 0) (p
     spares = chain_stays Spare (view p) (view q) records leaves.spares spare h.spares;
     all = leaves.idle_is ∙ h.all;
   }
+
+  pub stock_still : HasChains is_local p l free spare → KeepsStock (view p).own (view q).own
+  stock_still h = record { spare = spares_kept is_local p q l l free spare free spare h (chains_still h) refl; drawn = leaves.moves.drawn }
 
 -- and its counts are the same
 pub counts_left : (c : CoverFacts) (v w : View) (n : Moved) → LeavesAll c v w → AreCounted n v.own → AreCounted n w.own

@@ -7,6 +7,7 @@ ghost use Rattle.record_table.specs.Nodes.{origin, HoldsNode};
 ghost use Rattle.reclaim_api.specs.Guarding.{Enters, Leaves};
 ghost use Rattle.reclaim_api.specs.Frames.{LeavesRest, LeavesRecords};
 ghost use Rattle.reclaim_api.specs.Holds.{IsElsewhere, HasReached, KeepsElse};
+ghost use Rattle.record_pieces.specs.Events.{KeepsStock};
 ghost use Rattle.manager.specs.Callers.{IsWorking, IsResting};
 
 use crate::counting::raised;
@@ -22,6 +23,7 @@ pub(crate) fn enter<S: Shape, R: Scheme>(table: &Table<S, R>, caller: &mut Calle
     ensures caller { IsWorking R.is_local caller.new }
     ensures pass { Enters caller.old.pass caller.new.pass }
     ensures rest { LeavesRest (view caller.old.pass) (view caller.new.pass) }
+    ensures stock { KeepsStock (view caller.old.pass).own (view caller.new.pass).own }
     ensures does { (f : Freed) × R.enters (setup_of table.now) (view caller.old.pass).own f (view caller.new.pass).own }
 {
     let left = R::enter(table, &mut caller.pass, &mut caller.local, &mut caller.free);

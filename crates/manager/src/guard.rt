@@ -3,7 +3,6 @@ ghost use Rattle.std.specs.Prelude.{◌≡◌, ◌≢◌, ◌+◌, ◌<◌, ◌�
 ghost use Rattle.record_memory.specs.declared.steps.Step.{Step};
 ghost use Rattle.record_memory.specs.declared.books.Share.{Share};
 ghost use Rattle.row_words.specs.Refs.{LinkParts};
-ghost use Rattle.row_words.specs.declared.links.Freed.{Freed};
 ghost use Rattle.row_words.specs.Packing.{key_in, link_in, packed_number, IsLink, IsPackedRef};
 ghost use Rattle.record_rule.specs.Facts.{Near, clean};
 ghost use Rattle.record_rule.specs.Kinds.{stored};
@@ -15,10 +14,11 @@ ghost use Rattle.record_table.specs.Nodes.{origin, origin_held, HoldsNode, Holds
 ghost use Rattle.reclaim_api.specs.Guarding.{Enters, Leaves};
 ghost use Rattle.reclaim_api.specs.Frames.{LeavesRest, LeavesRecords};
 ghost use Rattle.reclaim_api.specs.Holds.{IsElsewhere, HasReached, KeepsElse, KeepsHeld, KeepsButLink};
-ghost use Rattle.record_pieces.specs.Events.{hopped, keyed, looked, exchanged, published, unlinked, stored_own, took, refused, gave_back, retired, placed};
+ghost use Rattle.record_pieces.specs.Events.{Does, begun, hopped, keyed, looked, exchanged, published, unlinked, stored_own, took, refused, gave_back, retired, placed, ended};
 ghost use Rattle.record_rule.specs.Placing.{placed_view};
 ghost use Rattle.manager.specs.Callers.{IsWorking, IsResting, AnswersNone, KeepsOwn, KeepsOwnBut};
 ghost use Rattle.manager.specs.Guards.{IsAtWork, Did};
+ghost use Rattle.manager.specs.Manners.{manner};
 
 use crate::callers::{enter, leave, reach};
 use crate::records::{fresh, put_away, set_spare};
@@ -42,7 +42,7 @@ impl<S: Shape, R: Scheme, A: Allocator, P: Pool> Manager<S, R, A, P> {
         ensures at_work { IsAtWork result }
         ensures pass { Enters caller.old.pass result.caller.now.pass }
         ensures rest { LeavesRest (view caller.old.pass) (view result.caller.now.pass) }
-        ensures did { (f : Freed) × R.enters (setup_of self.entry.now.table) (view caller.old.pass).own f (view result.caller.now.pass).own }
+        ensures did { Does (manner R.enters R.leaves R.bears R.reaches R.puts_away A.draws A.refuses P.SHELVES P.busy) (setup_of self.entry.now.table) begun (view caller.old.pass).own (view result.caller.now.pass).own }
     {
         enter(&self.table, caller);
         Guard {
@@ -135,7 +135,7 @@ impl<'a, S: Shape, R: Scheme, A: Allocator, P: Pool> Guard<'a, S, R, A, P> {
         ensures caller { IsResting R.is_local self.exit.0.now }
         ensures pass { Leaves self.entry.caller.now.pass self.exit.0.now.pass }
         ensures rest { LeavesRecords (view self.entry.caller.now.pass) (view self.exit.0.now.pass) }
-        ensures did { R.leaves (setup_of self.entry.manager.now.table) (view self.entry.caller.now.pass).own (view self.exit.0.now.pass).own }
+        ensures did { Does (manner R.enters R.leaves R.bears R.reaches R.puts_away A.draws A.refuses P.SHELVES P.busy) (setup_of self.entry.manager.now.table) ended (view self.entry.caller.now.pass).own (view self.exit.0.now.pass).own }
     {
         let Guard { caller, manager } = self;
         leave(&manager.table, caller);

@@ -7,9 +7,11 @@ ghost use Rattle.row_words.specs.declared.links.Freed.{Freed};
 ghost use Rattle.record_rule.specs.HandingOut.{HasDrawn, IsOwnOf};
 ghost use Rattle.record_rule.specs.Links.{HasTaken};
 ghost use Rattle.record_rule.specs.Makes.{Makes};
+ghost use Rattle.record_rule.specs.Standings.{is_spare};
 ghost use Rattle.record_table.specs.Handles.{setup_of, view, IsPassOf, IsSamePass};
+ghost use Rattle.reclaim_api.specs.Frames.{had};
 ghost use Rattle.reclaim_api.specs.Holds.{KeepsHeld};
-ghost use Rattle.record_pieces.specs.Events.{own_load, own_store, HandsOut, Gets, Takes as TakesRecord, FindsNone};
+ghost use Rattle.record_pieces.specs.Events.{own_load, own_store, HandsOut, KeepsStock, WasFree, Gets, Takes as TakesRecord, FindsNone};
 ghost use Rattle.pool.specs.Calls.{Takes};
 ghost use Rattle.pool.specs.declared.Taken.TheVariants.{Some as Took, None as FoundNone};
 ghost use Rattle.manager.specs.Manners.{manner};
@@ -34,6 +36,7 @@ fn take_spare<S: Shape, R: Scheme>(table: &Table<S, R>, caller: &mut Caller<S, R
     ensures none { IfNone result ((caller.new ≡ caller.old) × (caller.old.spare.head ≡ None)) }
     ensures own { IfSome result (λ own. IsOwnOf (view caller.new.pass) own) }
     ensures made { IfSome result (λ own. (n : ℕ) × Makes (view caller.old.pass) (view caller.new.pass) (own_load (view caller.old.pass).own own 1 n ∷ [])) }
+    ensures stock { IfSome result (λ _. (had is_spare (view caller.old.pass).own ≡ had is_spare (view caller.new.pass).own + 1) × ((view caller.new.pass).own.moves.drawn ≡ (view caller.old.pass).own.moves.drawn)) }
 {
     let first = caller.spare.head?;
     let (own, next) = table.take_spare(&mut caller.pass, first);
@@ -56,6 +59,7 @@ pub(crate) fn set_spare<S: Shape, R: Scheme>(
     ensures pass { IsSamePass caller.old.pass caller.new.pass }
     ensures owns { KeepsOwnBut own.index (view caller.old.pass) (view caller.new.pass) }
     ensures made { (found : ℕ) × (left : ℕ) × Makes (view caller.old.pass) (view caller.new.pass) (own_store (view caller.old.pass).own own 1 found left ∷ []) }
+    ensures stock { (had is_spare (view caller.new.pass).own ≡ had is_spare (view caller.old.pass).own + 1) × ((view caller.new.pass).own.moves.drawn ≡ (view caller.old.pass).own.moves.drawn) }
 {
     let r = table.set_aside(&mut caller.pass, own, caller.spare.head);
     let _index = r.index;
@@ -78,6 +82,7 @@ pub(crate) fn put_away<S: Shape, R: Scheme>(
     ensures keeps { KeepsHeld caller.old.pass caller.new.pass }
     ensures answers { AnswersNone (view caller.old.pass) (view caller.new.pass) }
     ensures owns { KeepsOwn (view caller.old.pass) (view caller.new.pass) }
+    ensures stock { KeepsStock (view caller.old.pass).own (view caller.new.pass).own }
     ensures does { (f : Freed) × R.puts_away (setup_of table.now) (view caller.old.pass).own taken f (view caller.new.pass).own }
 {
     let left = R::put_away(
@@ -104,8 +109,10 @@ fn draw<S: Shape, R: Scheme, A: Allocator>(
     ensures caller { IsWorking R.is_local caller.new }
     ensures pass { IsSamePass caller.old.pass caller.new.pass }
     ensures owns { KeepsOwn (view caller.old.pass) (view caller.new.pass) }
+    ensures spare { caller.new.spare ≡ caller.old.spare }
     ensures made { (steps : List Step) × Makes (view caller.old.pass) (view caller.new.pass) steps }
     ensures drawn { MatchResult result (λ r. HasDrawn (view caller.new.pass) r) (λ _. Unit {0}) }
+    ensures moves { MatchResult result (λ _. (view caller.new.pass).own.moves.drawn ≡ (view caller.old.pass).own.moves.drawn + 1) (λ _. (view caller.new.pass).own.moves.drawn ≡ (view caller.old.pass).own.moves.drawn) }
     ensures does { MatchResult result (λ r. A.draws (view caller.old.pass) r (view caller.new.pass)) (λ none. A.refuses (view caller.old.pass) none.found (view caller.new.pass)) }
 {
     let r = A::draw(table, &mut caller.pass)?;
@@ -121,8 +128,10 @@ fn take_free<S: Shape, R: Scheme>(table: &Table<S, R>, caller: &mut Caller<S, R>
     ensures caller { IsWorking R.is_local caller.new }
     ensures pass { IsSamePass caller.old.pass caller.new.pass }
     ensures owns { KeepsOwn (view caller.old.pass) (view caller.new.pass) }
+    ensures spare { caller.new.spare ≡ caller.old.spare }
     ensures none { IfNone result ((caller.new ≡ caller.old) × (caller.old.free.head ≡ None)) }
     ensures drawn { IfSome result (λ r. HasDrawn (view caller.new.pass) r) }
+    ensures again { IfSome result (λ r. WasFree (view caller.old.pass).own r × ((view caller.new.pass).own.moves.drawn ≡ (view caller.old.pass).own.moves.drawn)) }
     ensures made { IfSome result (λ r. (n : ℕ) × Makes (view caller.old.pass) (view caller.new.pass) (own_load (view caller.old.pass).own r 1 n ∷ [])) }
 {
     let first = caller.free.head?;
@@ -142,6 +151,7 @@ fn take_chain<S: Shape, R: Scheme, P: Pool>(table: &Table<S, R>, caller: &mut Ca
     ensures caller { IsWorking R.is_local caller.new }
     ensures pass { IsSamePass caller.old.pass caller.new.pass }
     ensures owns { KeepsOwn (view caller.old.pass) (view caller.new.pass) }
+    ensures spare { caller.new.spare ≡ caller.old.spare }
     ensures made { (steps : List Step) × Makes (view caller.old.pass) (view caller.new.pass) steps }
     ensures some { result ≡ true → Takes P.SHELVES P.busy (view caller.old.pass) (view caller.new.pass) (Took caller.new.free) }
     ensures none { result ≡ false → Takes P.SHELVES P.busy (view caller.old.pass) (view caller.new.pass) FoundNone × (caller.new.free ≡ caller.old.free) }
@@ -166,6 +176,7 @@ fn hand_out<S: Shape, R: Scheme>(table: &Table<S, R>, caller: &mut Caller<S, R>,
     ensures keeps { KeepsHeld caller.old.pass caller.new.pass }
     ensures answers { AnswersNone (view caller.old.pass) (view caller.new.pass) }
     ensures owns { KeepsOwn (view caller.old.pass) (view caller.new.pass) }
+    ensures stock { KeepsStock (view caller.old.pass).own (view caller.new.pass).own }
     ensures own { IsOwnOf (view caller.new.pass) result }
     ensures record { result ≡ r }
     ensures does { (d : Book) × (birth : ℕ) × R.bears (setup_of table.now) (view caller.old.pass).own birth d × HandsOut r birth d (view caller.new.pass).own }
@@ -187,6 +198,7 @@ fn take_next<S: Shape, R: Scheme, A: Allocator, P: Pool>(
     ensures caller { IsWorking R.is_local caller.new }
     ensures pass { IsSamePass caller.old.pass caller.new.pass }
     ensures owns { KeepsOwn (view caller.old.pass) (view caller.new.pass) }
+    ensures spare { caller.new.spare ≡ caller.old.spare }
     ensures made { (steps : List Step) × Makes (view caller.old.pass) (view caller.new.pass) steps }
     ensures drawn { MatchResult result (λ r. HasDrawn (view caller.new.pass) r) (λ _. Unit {0}) }
     ensures did { MatchResult result

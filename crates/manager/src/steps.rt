@@ -10,6 +10,7 @@ ghost use Rattle.record_table.specs.Handles.{setup_of, view, IsPassOf, IsSamePas
 ghost use Rattle.record_table.specs.Nodes.{origin, origin_held, HoldsThere, HoldsNode, HasStarted, is_first, MayPlaceIn, IsRefused};
 ghost use Rattle.record_rule.specs.Placing.{placed_view};
 ghost use Rattle.reclaim_api.specs.Holds.{KeepsHeld, KeepsButLink};
+ghost use Rattle.record_pieces.specs.Events.{KeepsStock};
 ghost use Rattle.manager.specs.Callers.{IsWorking, AnswersNone, KeepsOwn, KeepsOwnBut};
 
 use crate::types::Caller;
@@ -32,6 +33,7 @@ pub(crate) fn load_key<S: Shape, R: Scheme>(
     ensures keeps { KeepsHeld caller.old.pass caller.new.pass }
     ensures answers { AnswersNone (view caller.old.pass) (view caller.new.pass) }
     ensures owns { KeepsOwn (view caller.old.pass) (view caller.new.pass) }
+    ensures stock { KeepsStock (view caller.old.pass).own (view caller.new.pass).own }
     ensures step { (n : ℕ) × (result ≡ key_in n) × LoadedKey (view caller.old.pass) node.place node.target n (view caller.new.pass) }
 {
     table.load_key(&mut caller.pass, node)
@@ -53,6 +55,7 @@ pub(crate) fn load_link<S: Shape, R: Scheme>(
     ensures keeps { KeepsHeld caller.old.pass caller.new.pass }
     ensures answers { AnswersNone (view caller.old.pass) (view caller.new.pass) }
     ensures owns { KeepsOwn (view caller.old.pass) (view caller.new.pass) }
+    ensures stock { KeepsStock (view caller.old.pass).own (view caller.new.pass).own }
     ensures step { (n : ℕ) × (result ≡ link_in n) × LoadedLink S.facts R.facts (view caller.old.pass) (origin node) 3 (is_first caller.old.pass) n (view caller.new.pass) }
 {
     table.load_link(&mut caller.pass, node, field)
@@ -80,6 +83,7 @@ pub(crate) fn exchange_link<S: Shape, R: Scheme>(
     ensures keeps { MatchResult result (λ _. KeepsButLink (origin node) caller.old.pass caller.new.pass) (λ _. KeepsHeld caller.old.pass caller.new.pass) }
     ensures answers { MatchResult result (λ _. decides ≡ None → AnswersNone (view caller.old.pass) (view caller.new.pass)) (λ _. AnswersNone (view caller.old.pass) (view caller.new.pass)) }
     ensures owns { KeepsOwn (view caller.old.pass) (view caller.new.pass) }
+    ensures stock { KeepsStock (view caller.old.pass).own (view caller.new.pass).own }
     ensures step { MatchResult result
         (λ _. ExchangedLink S.facts (view caller.old.pass) (origin node) 3 expected new decides (view caller.new.pass))
         (λ found. IsRefused (view caller.old.pass) (origin node) expected found.link (view caller.new.pass)) }
@@ -110,6 +114,7 @@ pub(crate) fn publish<S: Shape, R: Scheme>(
     ensures keeps { MatchResult result (λ _. KeepsButLink (origin node) caller.old.pass caller.new.pass) (λ _. KeepsHeld caller.old.pass caller.new.pass) }
     ensures answers { MatchResult result (λ _. decides ≡ None → AnswersNone (view caller.old.pass) (view caller.new.pass)) (λ _. AnswersNone (view caller.old.pass) (view caller.new.pass)) }
     ensures owns { MatchResult result (λ _. KeepsOwnBut own.index (view caller.old.pass) (view caller.new.pass)) (λ _. KeepsOwn (view caller.old.pass) (view caller.new.pass)) }
+    ensures stock { KeepsStock (view caller.old.pass).own (view caller.new.pass).own }
     ensures step { MatchResult result
         (λ _. PublishedLink S.facts (view caller.old.pass) (origin node) 3 expected own decides (view caller.new.pass))
         (λ back. (back.0 ≡ own) × IsRefused (view caller.old.pass) (origin node) expected back.1.link (view caller.new.pass)) }
@@ -138,6 +143,7 @@ pub(crate) fn unlink<S: Shape, R: Scheme>(
     ensures keeps { MatchResult result (λ _. KeepsButLink (origin node) caller.old.pass caller.new.pass) (λ _. KeepsHeld caller.old.pass caller.new.pass) }
     ensures answers { AnswersNone (view caller.old.pass) (view caller.new.pass) }
     ensures owns { KeepsOwn (view caller.old.pass) (view caller.new.pass) }
+    ensures stock { KeepsStock (view caller.old.pass).own (view caller.new.pass).own }
     ensures step { MatchResult result
         (λ taken. (taken ≡ gone.target) × UnlinkedRecord S.facts (view caller.old.pass) (origin node) 3 gone.target new (view caller.new.pass))
         (λ found. IsRefused (view caller.old.pass) (origin node) (clean gone.target) found.link (view caller.new.pass)) }
@@ -160,6 +166,7 @@ pub(crate) fn place<S: Shape, R: Scheme>(
     ensures pass { IsSamePass caller.old.pass caller.new.pass }
     ensures keeps { KeepsHeld caller.old.pass caller.new.pass }
     ensures owns { KeepsOwn (view caller.old.pass) (view caller.new.pass) }
+    ensures stock { KeepsStock (view caller.old.pass).own (view caller.new.pass).own }
     ensures placed { (position : ℕ) × (found : ℕ) × MayPlaceIn S.facts (view caller.old.pass) position call reply × (view caller.new.pass ≡ placed_view (view caller.old.pass) 0 found position call reply) }
 {
     set_history::place(table, &mut caller.pass, call, reply);
@@ -186,6 +193,7 @@ pub(crate) fn store_own<S: Shape, R: Scheme>(
     ensures keeps { KeepsHeld caller.old.pass caller.new.pass }
     ensures answers { AnswersNone (view caller.old.pass) (view caller.new.pass) }
     ensures owns { KeepsOwn (view caller.old.pass) (view caller.new.pass) }
+    ensures stock { KeepsStock (view caller.old.pass).own (view caller.new.pass).own }
     ensures step { view caller.new.pass ≡ stored (view caller.old.pass) own.old.index word (packed_number own.old.generation payload) }
 {
     table.store_own(&mut caller.pass, own, word, payload);

@@ -1,5 +1,5 @@
 -- What one call of a guard did, and the steps that it made.
-use Rattle.std.specs.Prelude.{◌≡◌, ◌≢◌, ℕ, [], ◌∷◌, ◌++◌, Option, Some, None, Bool, true, false}
+use Rattle.std.specs.Prelude.{◌≡◌, ◌≢◌, ℕ, ◌+◌, ◌-◌, [], ◌∷◌, ◌++◌, Option, Some, None, Bool, true, false, slice_index_or}
 use Rattle.set_model.specs.declared.calls.Call.{Call}
 use Rattle.record_memory.specs.declared.steps.Step.{Step}
 use Rattle.record_memory.specs.declared.steps.Word.TheVariants.{Field, Drawn}
@@ -7,6 +7,8 @@ use Rattle.record_memory.specs.declared.steps.StepKind.{StepKind}
 use Rattle.record_memory.specs.declared.steps.StepKind.TheVariants.{Load, Store, Exchange}
 use Rattle.record_memory.specs.declared.books.Setup.{Setup}
 use Rattle.record_memory.specs.declared.books.Book.{Book}
+use Rattle.record_memory.specs.declared.books.Share.{Share}
+use Rattle.record_memory.specs.declared.books.Standing.TheVariants.{Free}
 use Rattle.record_memory.specs.declared.books.View.{View}
 use Rattle.row_words.specs.Refs.{RefParts, LinkParts}
 use Rattle.row_words.specs.Packing.{key_in, link_in, packed_number}
@@ -15,9 +17,11 @@ use Rattle.record_rule.specs.Facts.{clean}
 use Rattle.record_rule.specs.Kinds.{idle}
 use Rattle.record_rule.specs.HandingOut.{handed_out}
 use Rattle.record_rule.specs.Links.{index_of, held_at, link_word}
+use Rattle.record_rule.specs.Standings.{is_free, is_spare}
 use Rattle.record_table.specs.declared.nodes.Node.{Node}
 use Rattle.record_table.specs.Nodes.{origin}
 use Rattle.reclaim_api.specs.declared.holding.Holding.{Holding}
+use Rattle.reclaim_api.specs.Frames.{had}
 use Rattle.record_pieces.specs.Manners.{Manner}
 
 pub data Event : Type 0 where
@@ -77,17 +81,29 @@ Exchanges k at f expected new (Some link) b c = (n : ℕ) × (link ≡ link_in n
 abbrev pub HandsOut : RefParts → ℕ → Book → Book → Type 0
 HandsOut r birth b c = (v : View) × (w : View) × (v.own ≡ b) × (w.own ≡ c) × (w ≡ handed_out v r birth)
 
-module _ (m : Manner) (k : Setup) where
-  -- how a record was got that is no spare one: from the free chain, from a chain of the pool's, or drawn
-  pub data Gets (b : Book) (r : RefParts) : Book → Type 0 where
-    from_free : (n : ℕ) (c : Book) → OneStep b (own_load b r 1 n) c → Gets b r c
-    from_pool : (d : Book) (n : ℕ) (c : Book) → m.takes k b true d → OneStep d (own_load d r 1 n) c → Gets b r c
-    from_draw : (d c : Book) → m.takes k b false d → m.draws k d r c → Gets b r c
+-- as many records are spare as before, and none was drawn
+pub record KeepsStock (b c : Book) : Type 0 where
+  pub spare : had is_spare c ≡ had is_spare b
+  pub drawn : c.moves.drawn ≡ b.moves.drawn
 
-  -- an own record was got: a spare one, or one that was handed out
+-- the caller had the record as free, at the generation before this one
+pub record WasFree (b : Book) (r : RefParts) : Type 0 where
+  pub share : Share
+  pub known : slice_index_or b.mine (r.index - 1) None ≡ Some share
+  pub free : share.standing ≡ Free
+  pub next : r.generation ≡ share.generation + 1
+
+module _ (m : Manner) (k : Setup) where
+  -- how a record was got that is no spare one: from the free chain; or, when that has none, from a chain of the pool's; or, when that has none either, it was drawn
+  pub data Gets (b : Book) (r : RefParts) : Book → Type 0 where
+    from_free : (n : ℕ) (c : Book) → WasFree b r → OneStep b (own_load b r 1 n) c → c.moves.drawn ≡ b.moves.drawn → Gets b r c
+    from_pool : (d : Book) (n : ℕ) (c : Book) → had is_free b ≡ 0 → m.takes k b true d → WasFree d r → OneStep d (own_load d r 1 n) c → c.moves.drawn ≡ b.moves.drawn → Gets b r c
+    from_draw : (d c : Book) → had is_free b ≡ 0 → m.takes k b false d → m.draws k d r c → c.moves.drawn ≡ b.moves.drawn + 1 → Gets b r c
+
+  -- an own record was got: a spare one; or, when there is none, one that was handed out, which leaves none spare
   pub data Takes (b : Book) (r : RefParts) (c : Book) : Type 0 where
-    from_spare : (n : ℕ) → OneStep b (own_load b r 1 n) c → Takes b r c
-    handed : (d e : Book) (birth : ℕ) → Gets b r d → m.bears k d birth e → HandsOut r birth e c → Takes b r c
+    from_spare : (n : ℕ) → OneStep b (own_load b r 1 n) c → had is_spare b ≡ had is_spare c + 1 → c.moves.drawn ≡ b.moves.drawn → Takes b r c
+    handed : (d e : Book) (birth : ℕ) → had is_spare b ≡ 0 → Gets b r d → m.bears k d birth e → HandsOut r birth e c → KeepsStock d c → had is_spare c ≡ 0 → Takes b r c
 
   -- none was got: no record was idle, the pool had no chain, and the draw found none left
   pub record FindsNone (b : Book) (n : ℕ) (c : Book) : Type 0 where
@@ -95,20 +111,21 @@ module _ (m : Manner) (k : Setup) where
     pub between : Book
     pub took : m.takes k b false between
     pub refused : m.refuses k between n c
+    pub stock : KeepsStock b c
 
-  -- the steps of an event
+  -- the steps of an event, and what it leaves of the caller's stock
   abbrev pub Does : Event → Book → Book → Type 0
-  Does begun b c = (f : Freed) × m.enters k b f c
-  Does (hopped p at f h) b c = m.reaches k p at f b h c
-  Does (keyed r key) b c = (n : ℕ) × (key ≡ key_in n) × OneStep b (key_load b r n) c
-  Does (looked at f link) b c = (n : ℕ) × (link ≡ link_in n) × OneStep b (node_step b Load at f n n) c
-  Does (exchanged at f expected new call refusal) b c = Exchanges k at f expected new refusal b c
-  Does (published at f expected own call refusal) b c = Exchanges k at f expected (clean own) refusal b c
-  Does (unlinked at f gone new refusal) b c = Exchanges k at f (clean gone) new refusal b c
+  Does begun b c = ((f : Freed) × m.enters k b f c) × KeepsStock b c
+  Does (hopped p at f h) b c = m.reaches k p at f b h c × KeepsStock b c
+  Does (keyed r key) b c = ((n : ℕ) × (key ≡ key_in n) × OneStep b (key_load b r n) c) × KeepsStock b c
+  Does (looked at f link) b c = ((n : ℕ) × (link ≡ link_in n) × OneStep b (node_step b Load at f n n) c) × KeepsStock b c
+  Does (exchanged at f expected new call refusal) b c = Exchanges k at f expected new refusal b c × KeepsStock b c
+  Does (published at f expected own call refusal) b c = Exchanges k at f expected (clean own) refusal b c × KeepsStock b c
+  Does (unlinked at f gone new refusal) b c = Exchanges k at f (clean gone) new refusal b c × KeepsStock b c
   Does (took r) b c = Takes b r c
   Does (refused n) b c = FindsNone b n c
-  Does (stored_own r f payload) b c = (found : ℕ) × OneStep b (own_store b r f found (packed_number r.generation payload)) c
-  Does (gave_back r) b c = (found : ℕ) × (left : ℕ) × OneStep b (own_store b r 1 found left) c
-  Does (retired r) b c = (f : Freed) × m.puts_away k b r f c
-  Does (placed call reply) b c = (n : ℕ) × OneStep b (placing_load b n) c
-  Does ended b c = m.leaves k b c
+  Does (stored_own r f payload) b c = ((found : ℕ) × OneStep b (own_store b r f found (packed_number r.generation payload)) c) × KeepsStock b c
+  Does (gave_back r) b c = ((found : ℕ) × (left : ℕ) × OneStep b (own_store b r 1 found left) c) × (had is_spare c ≡ had is_spare b + 1) × (c.moves.drawn ≡ b.moves.drawn)
+  Does (retired r) b c = ((f : Freed) × m.puts_away k b r f c) × KeepsStock b c
+  Does (placed call reply) b c = ((n : ℕ) × OneStep b (placing_load b n) c) × KeepsStock b c
+  Does ended b c = m.leaves k b c × KeepsStock b c

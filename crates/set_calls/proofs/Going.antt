@@ -2,7 +2,6 @@
 use Rattle.std.proofs.Common.{◌≡◌, ℕ, List, [], ◌∷◌, ◌++◌, refl, ◌∙◌, subst}
 use Rattle.record_memory.specs.declared.books.Setup.{Setup}
 use Rattle.record_memory.specs.declared.books.Book.{Book}
-use Rattle.row_words.specs.declared.links.Freed.{Freed}
 use Rattle.record_table.specs.Handles.{setup_of, view, same_start, same_then}
 use Rattle.record_table.specs.declared.passes.Pass.{Pass}
 use Rattle.reclaim_api.specs.Holds.{KeepsSome, KeepsHeld}
@@ -11,7 +10,7 @@ use Rattle.reclaim_api.specs.declared.scheme.Scheme.{Ghosts as OfScheme}
 use Rattle.alloc_api.specs.declared.Allocator.{Ghosts as OfAllocator}
 use Rattle.pool.specs.declared.Pool.{Ghosts as OfPool}
 use Rattle.record_pieces.specs.Manners.{Manner}
-use Rattle.record_pieces.specs.Events.{Event, begun, ended}
+use Rattle.record_pieces.specs.Events.{Event, Does, begun, ended}
 use Rattle.record_pieces.specs.Trails.{Trail}
 use Rattle.record_pieces.proofs.Joins.{joins, adds}
 use Rattle.manager.specs.declared.types.Guard.{Guard}
@@ -53,5 +52,5 @@ pub keeps_any : {S R : Type 0} (places : ℕ → Type 0) (words : ℕ → ℕ �
 keeps_any places words p q k = keeps_less (λ place. Unit {0}) places (λ place f. Unit {0}) words p q (λ place h. tt) (λ place f h. tt) k
 
 -- A whole operation, from its guard's beginning to its end, of one table, though three guards name it
-pub whole : (m : Manner) (k inner last : Setup) (es : List Event) (b c d e : Book) → inner ≡ k → last ≡ k → (f : Freed) × m.enters k b f c → Trail m inner es c d → m.leaves last d e → Trail m k (begun ∷ es ++ ended ∷ []) b e
-whole m k inner last es b c d e same end enter walk leave = (c, enter, adds m k es ended c d e (subst (λ (x : Setup). Trail m x es c d) same walk) (subst (λ (x : Setup). m.leaves x d e) end leave))
+pub whole : (m : Manner) (k inner last : Setup) (es : List Event) (b c d e : Book) → inner ≡ k → last ≡ k → Does m k begun b c → Trail m inner es c d → Does m last ended d e → Trail m k (begun ∷ es ++ ended ∷ []) b e
+whole m k inner last es b c d e same end enter walk leave = (c, enter, adds m k es ended c d e (subst (λ (x : Setup). Trail m x es c d) same walk) (subst (λ (x : Setup). Does m x ended d e) end leave))

@@ -48,3 +48,6 @@ returns-clause-caller g c = let a = c.args.caller.now in let q = c.draw.new.pass
 
 pub returns-clause-owns : goal.returns-clause-owns
 returns-clause-owns g c = let e = c.draw.ensures in owns_stay _ _ (ap (λ (k : Setup). k.records) e.pass.setup) (draws_stay (view c.args.caller.now.pass) (view c.draw.new.pass) c.draw.result e.new e.rest Own)
+
+pub returns-clause-moves : goal.returns-clause-moves
+returns-clause-moves g c = ap (λ (m : Moves). m.drawn) c.in_ok-r.ensures.rest.moves

@@ -1,4 +1,4 @@
-use Rattle.std.proofs.Common.{get_or, None, ap, sym, subst, ◌∙◌, List}
+use Rattle.std.proofs.Common.{get_or, None, ap, sym, refl, subst, ◌∙◌, List}
 use Rattle.record_memory.specs.declared.books.View.{View}
 use Rattle.record_memory.specs.declared.books.Setup.{Setup}
 use Rattle.record_memory.specs.declared.steps.Step.{Step}
@@ -12,7 +12,9 @@ use Rattle.reclaim_api.proofs.Kept.{chain_stays}
 use Rattle.manager.proofs.Stay.{chains_stay, inside_after, keeps_after, chains_after, answers_after}
 use Rattle.manager.proofs.Handed.{still_drawn, handed_limbo, handed_moves, handed_stay}
 use Rattle.reclaim_api.specs.Frames.{in_away}
+use Rattle.record_memory.specs.declared.books.Moves.{Moves}
 use Rattle.manager.proofs.MoveCounts.{same_moves, counted_still}
+use Rattle.manager.proofs.Stocks.{spares_kept}
 use Rattle.reclaim_api.proofs.Keeping.{held_then}
 use Rattle.manager.proofs.Owns.{owns_mine, owns_stay}
 use Rattle.manager.proofs.records.hand_out.Goals as goal
@@ -50,3 +52,9 @@ returns-clause-answers g c = let q = c.birth-birth.new.pass in let z = c.hand_ou
 pub returns-clause-owns : goal.returns-clause-owns
 returns-clause-owns g c r own = let q = c.birth-birth.new.pass in let z = c.hand_out.new.pass in let b = c.birth-birth.ensures in let e = c.hand_out.ensures in
     owns_stay (view q) (view z) (ap (λ (k : Setup). k.records) e.pass.setup) (handed_stay (view q) (view z) c.args.r c.birth-birth.result (drawn g c) e.steps Own tt) r (owns_mine _ (view q) (ap (λ (k : Setup). k.records) b.pass.setup) b.rest.mine r own)
+
+pub returns-clause-stock : goal.returns-clause-stock
+returns-clause-stock g c = let a = c.args.caller.now in let b = c.birth-birth.new in let z = c.hand_out.new.pass in record {
+  spare = spares_kept _ a.pass z a.local b.local a.free a.spare a.free a.spare c.requires.caller.chains (returns-clause-caller g c).chains refl;
+  drawn = (handed_moves (view b.pass) (view z) c.args.r c.birth-birth.result (drawn g c) c.hand_out.ensures.steps).drawn ∙ ap (λ (m : Moves). m.drawn) c.birth-birth.ensures.rest.moves;
+}

@@ -1,4 +1,4 @@
-use Rattle.std.proofs.Common.{ap, sym, ◌∙◌}
+use Rattle.std.proofs.Common.{ap, sym, refl, ◌∙◌}
 use Rattle.record_memory.specs.declared.books.Moves.{Moves}
 use Rattle.manager.specs.Counted.{shown}
 use Rattle.manager.proofs.MoveCounts.{freed_is, spent_is}
@@ -6,6 +6,7 @@ use Rattle.record_memory.specs.declared.books.Setup.{Setup}
 use Rattle.record_table.specs.Handles.{view}
 use Rattle.reclaim_api.proofs.Kept.{spare_rest_but, own_rest_but}
 use Rattle.manager.proofs.Stay.{chains_freed}
+use Rattle.manager.proofs.Stocks.{spares_kept}
 use Rattle.manager.proofs.records.put_away.Goals as goal
 
 pub returns-clause-caller : goal.returns-clause-caller
@@ -25,3 +26,9 @@ returns-clause-caller g c = let a = c.args.caller.now in let e = c.put_away-left
 
 pub returns-clause-owns : goal.returns-clause-owns
 returns-clause-owns g c = let a = c.args.caller.now in let e = c.put_away-left.ensures in let q = c.put_away-left.new.pass in own_rest_but (view a.pass) (view q) c.args.taken c.requires.taken.0 c.requires.taken.1 e.rest (ap (λ (k : Setup). k.records) e.pass.setup)
+
+pub returns-clause-stock : goal.returns-clause-stock
+returns-clause-stock g c = let a = c.args.caller.now in let b = c.put_away-left.new in record {
+  spare = spares_kept _ a.pass b.pass a.local b.local a.free a.spare b.free a.spare c.requires.caller.chains (returns-clause-caller g c).chains refl;
+  drawn = ap (λ (m : Moves). m.drawn) c.put_away-left.ensures.rest.moves;
+}

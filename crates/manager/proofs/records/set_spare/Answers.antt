@@ -4,7 +4,9 @@ use Rattle.row_words.specs.Refs.{RefParts, IsRef}
 use Rattle.row_words.specs.declared.links.Chain.{Chain}
 use Rattle.record_table.specs.Handles.{view}
 use Rattle.manager.proofs.Stay.{inside_after, chains_after}
+use Rattle.record_memory.specs.declared.books.Moves.{Moves}
 use Rattle.manager.proofs.MoveCounts.{same_moves, counted_still}
+use Rattle.manager.proofs.Stocks.{spares_in}
 use Rattle.manager.proofs.Spares.{room_for, pushed_makes, pushed_limbo, pushed_moves, pushed_free, pushed_owns, pushed_list}
 use Rattle.manager.proofs.records.set_spare.Goals as goal
 
@@ -35,3 +37,12 @@ returns-clause-owns g c = let a = c.args.caller.now in let v : View = view a.pas
     let after : Chain = record { head = Some c.set_aside-r.result; count = a.spare.count + 1 } in
     let ref : IsRef c.args.own = subst IsRef (c.r.view_is ∙ e.record) c.r.invariant in let head : after.head ≡ Some c.args.own = ap (λ (z : RefParts). Some z) e.record in
     pushed_owns v w a.spare after c.args.own c.requires.own.0 c.requires.caller.chains.spares c.requires.own.1 ref e.step head refl
+
+pub returns-clause-stock : goal.returns-clause-stock
+returns-clause-stock g c = let a = c.args.caller.now in let q = c.set_aside-r.new.pass in let e = c.set_aside-r.ensures in
+    let after : Chain = record { head = Some c.set_aside-r.result; count = a.spare.count + 1 } in
+    let ref : IsRef c.args.own = subst IsRef (c.r.view_is ∙ e.record) c.r.invariant in let head : after.head ≡ Some c.args.own = ap (λ (z : RefParts). Some z) e.record in
+    let before = spares_in _ a.pass a.local a.free a.spare c.requires.caller.chains in let now = spares_in _ q a.local a.free after (returns-clause-caller g c).chains in (
+      omega arith,
+      ap (λ (m : Moves). m.drawn) (pushed_moves (view a.pass) (view q) a.spare after c.args.own c.requires.own.0 c.requires.caller.chains.spares c.requires.own.1 ref e.step head refl),
+    )

@@ -1,4 +1,4 @@
-use Rattle.std.proofs.Common.{◌-◌, ℕ, [], ◌∷◌, refl, sym, ap, ◌∙◌, subst, get_or, arith}
+use Rattle.std.proofs.Common.{◌+◌, ◌-◌, ℕ, [], ◌∷◌, refl, sym, ap, ◌∙◌, subst, get_or, None, arith}
 use Rattle.manager.specs.Counted.{shown}
 use Rattle.manager.proofs.MoveCounts.{spent_still, limbo_still}
 use Rattle.record_memory.specs.declared.books.View.{View}
@@ -44,3 +44,9 @@ pub returns-clause-owns : goal.returns-clause-owns
 returns-clause-owns g c = let a = c.args.caller.now in let v : View = view a.pass in let w : View = view c.take_free-r.new.pass in let r = c.in_ok-first.first in let e = c.take_free-r.ensures in
     let after : Chain = record { head = c.take_free-r.result.1; count = a.free.count - 1 } in
     again_owns v w a.free after r c.requires.caller.chains.frees c.in_ok-first.was e.step e.next refl
+
+pub returns-clause-again : goal.returns-clause-again
+returns-clause-again g c = let v : View = view c.args.caller.now.pass in let e = c.take_free-r.ensures in let was = e.step.was in (
+  record { share = was.share; known = ap (λ (i : ℕ). get_or v.own.mine (i - 1) None) e.index ∙ was.known; free = was.free; next = e.generation ∙ ap (λ (n : ℕ). n + 1) (sym was.generation) },
+  ap (λ (x : View). x.own.moves.drawn) e.step.view,
+)

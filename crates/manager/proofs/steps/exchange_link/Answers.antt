@@ -1,6 +1,6 @@
 use Rattle.record_table.specs.Handles.{view}
 use Rattle.record_table.specs.Nodes.{origin}
-use Rattle.manager.proofs.NodeSteps.{LeavesAll, inside_still, chains_still, counts_left, exchange_leaves}
+use Rattle.manager.proofs.NodeSteps.{LeavesAll, inside_still, chains_still, stock_still, counts_left, exchange_leaves}
 use Rattle.manager.proofs.StepKeeps.{exchange_keeps, exchange_answers, exchange_owns}
 use Rattle.manager.proofs.steps.exchange_link.Goals as goal
 
@@ -23,3 +23,6 @@ returns-clause-answers g c = exchange_answers c.args.caller.now.pass c.exchange_
 
 pub returns-clause-owns : goal.returns-clause-owns
 returns-clause-owns g c = exchange_owns c.args.caller.now.pass c.exchange_link.new.pass c.exchange_link.ensures.pass g.S.Shape.facts (origin c.args.node) c.args.expected c.args.new c.args.decides c.exchange_link.result c.exchange_link.ensures.step
+
+pub returns-clause-stock : goal.returns-clause-stock
+returns-clause-stock g c = let a = c.args.caller.now in stock_still g.R.Scheme.is_local a.pass c.exchange_link.new.pass c.exchange_link.ensures.pass a.local a.free a.spare g.met.R.Scheme.local_stays (leaves g c) c.requires.caller.chains

@@ -2,7 +2,7 @@ use Rattle.std.proofs.Common.{ap}
 use Rattle.record_memory.specs.declared.books.View.{View}
 use Rattle.record_table.specs.Handles.{view}
 use Rattle.reclaim_api.proofs.Kept.{goes_on}
-use Rattle.manager.proofs.NodeSteps.{LeavesAll, inside_still, chains_still, counts_left, leaves_records}
+use Rattle.manager.proofs.NodeSteps.{LeavesAll, inside_still, chains_still, stock_still, counts_left, leaves_records}
 use Rattle.reclaim_api.proofs.Keeping.{keeps_same}
 use Rattle.manager.proofs.StepKeeps.{began}
 use Rattle.manager.proofs.Owns.{owns_mine}
@@ -30,3 +30,6 @@ returns-clause-answers g c = let e = c.load_key.ensures.step.2.view in record { 
 
 pub returns-clause-owns : goal.returns-clause-owns
 returns-clause-owns g c = owns_mine _ _ (ap (λ (k : Setup). k.records) c.load_key.ensures.pass.setup) (ap (λ (x : View). x.own.mine) c.load_key.ensures.step.2.view)
+
+pub returns-clause-stock : goal.returns-clause-stock
+returns-clause-stock g c = let a = c.args.caller.now in stock_still g.R.Scheme.is_local a.pass c.load_key.new.pass c.load_key.ensures.pass a.local a.free a.spare g.met.R.Scheme.local_stays (leaves g c) c.requires.caller.chains

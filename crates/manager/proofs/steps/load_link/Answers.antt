@@ -1,7 +1,7 @@
 use Rattle.std.proofs.Common.{◌+◌, ap, length}
 use Rattle.record_memory.specs.declared.books.View.{View}
 use Rattle.record_table.specs.Handles.{view}
-use Rattle.manager.proofs.NodeSteps.{LeavesAll, inside_still, chains_still, counts_left, leaves_records}
+use Rattle.manager.proofs.NodeSteps.{LeavesAll, inside_still, chains_still, stock_still, counts_left, leaves_records}
 use Rattle.record_memory.specs.declared.books.Setup.{Setup}
 use Rattle.record_table.specs.Nodes.{origin, is_first}
 use Rattle.reclaim_api.proofs.Keeping.{keeps_load}
@@ -31,3 +31,6 @@ returns-clause-answers g c = let e = c.load_link.ensures.step.2.view in record {
 
 pub returns-clause-owns : goal.returns-clause-owns
 returns-clause-owns g c = owns_mine _ _ (ap (λ (k : Setup). k.records) c.load_link.ensures.pass.setup) (ap (λ (x : View). x.own.mine) c.load_link.ensures.step.2.view)
+
+pub returns-clause-stock : goal.returns-clause-stock
+returns-clause-stock g c = let a = c.args.caller.now in stock_still g.R.Scheme.is_local a.pass c.load_link.new.pass c.load_link.ensures.pass a.local a.free a.spare g.met.R.Scheme.local_stays (leaves g c) c.requires.caller.chains

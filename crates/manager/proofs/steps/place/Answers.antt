@@ -2,7 +2,7 @@ use Rattle.std.proofs.Common.{ap}
 use Rattle.record_memory.specs.declared.books.View.{View}
 use Rattle.record_table.specs.Handles.{view}
 use Rattle.reclaim_api.proofs.Kept.{goes_on}
-use Rattle.manager.proofs.NodeSteps.{LeavesAll, inside_still, chains_still, counts_left, leaves_records}
+use Rattle.manager.proofs.NodeSteps.{LeavesAll, inside_still, chains_still, stock_still, counts_left, leaves_records}
 use Rattle.record_memory.specs.declared.books.Setup.{Setup}
 use Rattle.reclaim_api.proofs.Keeping.{keeps_same}
 use Rattle.manager.proofs.StepKeeps.{began}
@@ -27,3 +27,6 @@ returns-clause-keeps g c = let a = c.args.caller.now in let q = c.place.new.pass
 
 pub returns-clause-owns : goal.returns-clause-owns
 returns-clause-owns g c = owns_mine _ _ (ap (λ (k : Setup). k.records) c.place.ensures.pass.setup) (ap (λ (x : View). x.own.mine) c.place.ensures.placed.3)
+
+pub returns-clause-stock : goal.returns-clause-stock
+returns-clause-stock g c = let a = c.args.caller.now in stock_still g.R.Scheme.is_local a.pass c.place.new.pass c.place.ensures.pass a.local a.free a.spare g.met.R.Scheme.local_stays (leaves g c) c.requires.caller.chains

@@ -1,6 +1,6 @@
 use Rattle.record_table.specs.Handles.{view}
 use Rattle.record_table.specs.Nodes.{origin}
-use Rattle.manager.proofs.NodeSteps.{LeavesAll, inside_still, chains_still, counts_left, publish_leaves}
+use Rattle.manager.proofs.NodeSteps.{LeavesAll, inside_still, chains_still, stock_still, counts_left, publish_leaves}
 use Rattle.manager.proofs.StepKeeps.{publish_keeps, publish_answers, publish_owns}
 use Rattle.manager.proofs.steps.publish.Goals as goal
 
@@ -23,3 +23,6 @@ returns-clause-answers g c = publish_answers c.args.caller.now.pass c.publish.ne
 
 pub returns-clause-owns : goal.returns-clause-owns
 returns-clause-owns g c = publish_owns c.args.caller.now.pass c.publish.new.pass c.publish.ensures.pass g.S.Shape.facts (origin c.args.node) c.args.expected c.args.own c.args.decides c.publish.result c.publish.ensures.step
+
+pub returns-clause-stock : goal.returns-clause-stock
+returns-clause-stock g c = let a = c.args.caller.now in stock_still g.R.Scheme.is_local a.pass c.publish.new.pass c.publish.ensures.pass a.local a.free a.spare g.met.R.Scheme.local_stays (leaves g c) c.requires.caller.chains

@@ -1,5 +1,5 @@
 use Rattle.record_table.specs.Handles.{view}
-use Rattle.manager.proofs.NodeSteps.{LeavesAll, inside_still, chains_still, counts_left, store_leaves}
+use Rattle.manager.proofs.NodeSteps.{LeavesAll, inside_still, chains_still, stock_still, counts_left, store_leaves}
 use Rattle.std.proofs.Common.{ap, ◌∙◌}
 use Rattle.record_memory.specs.declared.books.View.{View}
 use Rattle.record_rule.specs.Kinds.{stored_as}
@@ -28,3 +28,6 @@ returns-clause-answers g c = let e = c.store_own.ensures.step ∙ ap (stored_as 
 
 pub returns-clause-owns : goal.returns-clause-owns
 returns-clause-owns g c = owns_store _ _ c.args.own.now c.args.word _ c.requires.own c.store_own.ensures.step
+
+pub returns-clause-stock : goal.returns-clause-stock
+returns-clause-stock g c = let a = c.args.caller.now in stock_still g.R.Scheme.is_local a.pass c.store_own.new.pass c.store_own.ensures.pass a.local a.free a.spare g.met.R.Scheme.local_stays (leaves g c) c.requires.caller.chains

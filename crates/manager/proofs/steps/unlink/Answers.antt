@@ -2,7 +2,7 @@ use Rattle.std.proofs.Common.{ap, arith}
 use Rattle.record_memory.specs.declared.books.Setup.{Setup}
 use Rattle.record_table.specs.Handles.{view}
 use Rattle.record_table.specs.Nodes.{origin}
-use Rattle.manager.proofs.NodeSteps.{LeavesAll, inside_still, chains_still, counts_left, unlink_leaves}
+use Rattle.manager.proofs.NodeSteps.{LeavesAll, inside_still, chains_still, stock_still, counts_left, unlink_leaves}
 use Rattle.manager.proofs.StepKeeps.{unlink_keeps, unlink_answers, unlink_owns}
 use Rattle.manager.proofs.steps.unlink.Goals as goal
 
@@ -26,3 +26,6 @@ returns-clause-answers g c = unlink_answers c.args.caller.now.pass c.unlink.new.
 
 pub returns-clause-owns : goal.returns-clause-owns
 returns-clause-owns g c = unlink_owns c.args.caller.now.pass c.unlink.new.pass c.unlink.ensures.pass g.S.Shape.facts (origin c.args.node) c.args.gone.target c.args.new c.unlink.result c.unlink.ensures.step
+
+pub returns-clause-stock : goal.returns-clause-stock
+returns-clause-stock g c = let a = c.args.caller.now in stock_still g.R.Scheme.is_local a.pass c.unlink.new.pass c.unlink.ensures.pass a.local a.free a.spare g.met.R.Scheme.local_stays (leaves g c) c.requires.caller.chains

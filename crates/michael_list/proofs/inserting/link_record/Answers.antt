@@ -1,4 +1,4 @@
-use Rattle.std.proofs.Common.{◌≡◌, ℕ, ◌%◌, [], ◌∷◌, Option, Some, sym, ap, ◌∙◌, subst, arith}
+use Rattle.std.proofs.Common.{◌≡◌, ℕ, ◌%◌, [], ◌∷◌, Option, Some, None, sym, ap, ◌∙◌, subst, arith}
 use Rattle.set_model.specs.declared.calls.Call.TheVariants.{Insert}
 use Rattle.row_words.specs.Refs.{RefParts, LinkParts}
 use Rattle.row_words.specs.Packing.{packed_number, packed_ref}
@@ -8,12 +8,13 @@ use Rattle.record_rule.specs.HandingOut.{HasOwn}
 use Rattle.record_table.specs.Handles.{setup_of, view}
 use Rattle.record_pieces.specs.Events.{Event, stored_own, published}
 use Rattle.reclaim_api.proofs.Keeping.{held_then}
-use Rattle.manager.specs.Guards.{Did}
+use Rattle.manager.specs.Guards.{Did, DidAll}
 use Rattle.set_calls.proofs.Going.{did_one, did_then}
-use Rattle.michael_list.specs.Pieces.{target_of}
+use Rattle.michael_list.specs.Pieces.{target_of, links}
 use Rattle.michael_list.proofs.Standing.{before_held}
 use Rattle.michael_list.proofs.Filling.{may_link}
 use Rattle.michael_list.proofs.Inserted.{beyond_held}
+use Rattle.michael_list.proofs.inserting.link_record.Goals.{After-publish}
 use Rattle.michael_list.proofs.inserting.link_record.Goals as goal
 
 pub store_own-requires-2-clause-payload : goal.store_own-requires-2-clause-payload
@@ -37,20 +38,26 @@ publish-requires-clause-allowed g c =
     c.store_own-2.new.self.of.setup (roots ∙ c.requires.home.1) c.requires.key before next c.requires.own first.step step expected in
     (may.0, may.1, subst (λ (own : RefParts). HasOwn (view s) own may.0) (sym own_is) may.2, may.3, may.4)
 
-pub returns-in-Err-clause-did : goal.returns-in-Err-clause-did
-returns-in-Err-clause-did g c =
+-- the two stores, and the exchange, which was made or refused
+three_did : (g : _) (c : After-publish g) (refusal : Option LinkParts) → Did c.store_own-2.new.self (published c.args.before 3 c.to-expected.result c.store_own-2.new.own (Some (Insert c.args.key)) refusal) c.publish.new.self
+    → DidAll c.args.guard.now (links c.args.key c.args.before c.args.next c.args.own refusal) c.publish.new.self
+three_did g c refusal did =
     let f = c.args.guard.now in let i = c.store_own.new.self in let j = c.store_own-2.new.self in let h = c.publish.new.self in
-    let other = c.in-Err.field-0-1.link in let first = c.store_own.ensures in let second = c.store_own-2.ensures in
+    let first = c.store_own.ensures in let second = c.store_own-2.ensures in
     let link : LinkParts = record { flags = 0; target = target_of c.args.next } in
     let key_stored : Event = stored_own c.args.own 4 c.args.key in
     let link_stored : Event = stored_own c.args.own 3 (packed_ref (target_of c.args.next)) in
-    let not_linked : Event = published c.args.before 3 link c.args.own (Some (Insert c.args.key)) (Some other) in
+    let exchanged : Event = published c.args.before 3 link c.args.own (Some (Insert c.args.key)) refusal in
     let own_is : c.store_own-2.new.own ≡ c.args.own = second.record ∙ first.record in
     let payload : c.pack_ref.result ≡ packed_ref (target_of c.args.next) = c.pack_ref.ensures.number ∙ ap packed_ref c.target_of.ensures in
     let expected : c.to-expected.result ≡ link = c.to-expected.ensures.link ∙ ap (λ (t : Option RefParts). record { flags = 0; target = t }) c.target_of-2.ensures in
     let did_second = subst (λ (z : RefParts × ℕ). Did i (stored_own z.0 3 z.1) j) (λ k. (first.record k, payload k)) second.did in
-    let did_third = subst (λ (z : LinkParts × RefParts). Did j (published c.args.before 3 z.0 z.1 (Some (Insert c.args.key)) (Some other)) h) (λ k. (expected k, own_is k)) c.in-Err.ensures.did in (
-      other,
-      did_then f i h (key_stored ∷ []) (link_stored ∷ not_linked ∷ []) first.same_reference.1 (did_one f i key_stored first.did)
-          (did_then i j h (link_stored ∷ []) (not_linked ∷ []) second.same_reference.1 (did_one i j link_stored did_second) (did_one j h not_linked did_third)),
-    )
+    let did_third = subst (λ (z : LinkParts × RefParts). Did j (published c.args.before 3 z.0 z.1 (Some (Insert c.args.key)) refusal) h) (λ k. (expected k, own_is k)) did in
+    did_then f i h (key_stored ∷ []) (link_stored ∷ exchanged ∷ []) first.same_reference.1 (did_one f i key_stored first.did)
+    (did_then i j h (link_stored ∷ []) (exchanged ∷ []) second.same_reference.1 (did_one i j link_stored did_second) (did_one j h exchanged did_third))
+
+pub returns-in-Ok-clause-did : goal.returns-in-Ok-clause-did
+returns-in-Ok-clause-did g c = three_did g c.before None c.in-Ok.ensures.did
+
+pub returns-in-Err-clause-did : goal.returns-in-Err-clause-did
+returns-in-Err-clause-did g c = let other = c.in-Err.field-0-1.link in (other, three_did g c.before (Some other) c.in-Err.ensures.did)

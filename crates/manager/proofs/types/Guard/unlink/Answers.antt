@@ -5,7 +5,7 @@ use Rattle.manager.proofs.Dids.{unlink_does, taken_ok}
 use Rattle.manager.proofs.types.Guard.unlink.Goals as goal
 
 pub returns-clause-did : goal.returns-clause-did
-returns-clause-did g c = let e = c.unlink.ensures in unlink_does g.S.Shape.facts _ _ _ (sym e.pass.setup ∙ e.of.setup) c.args.node c.args.gone.target c.args.new c.unlink.result e.step
+returns-clause-did g c = let e = c.unlink.ensures in unlink_does g.S.Shape.facts _ _ _ (sym e.pass.setup ∙ e.of.setup) e.stock c.args.node c.args.gone.target c.args.new c.unlink.result e.step
 
 pub returns-clause-taken : goal.returns-clause-taken
 returns-clause-taken g c = let e = c.unlink.ensures in

@@ -1,0 +1,5 @@
+use Rattle.manager.proofs.Stocks.{stock_left}
+use Rattle.manager.proofs.types.Guard.finish.Goals as goal
+
+pub returns-clause-did : goal.returns-clause-did
+returns-clause-did g c = let e = c.leave.ensures in (e.does, stock_left _ _ e.rest)

@@ -1,0 +1,4 @@
+use Rattle.manager.proofs.types.Guard.give_back.Goals as goal
+
+pub returns-clause-did : goal.returns-clause-did
+returns-clause-did g c = let e = c.set_spare.ensures in ((e.made.0, e.made.1, e.made.2.appended), e.stock.0, e.stock.1)
