@@ -1,6 +1,6 @@
 use Rattle.std.proofs.Common.{◌+◌, ◌*◌, length, Some, refl, sym, ◌∙◌, subst}
 use Rattle.cover_facts.specs.Keeping.{none}
-use Rattle.hash_runs.specs.HashRuns.{IsNoneRun, none_manner}
+use Rattle.hash_runs.specs.HashRuns.{IsNoneRun, none_manner, none_setup}
 use Rattle.list_facts.specs.Michael.{michael}
 use Rattle.michael_hash.specs.Pieces.{MakesPiece}
 use Rattle.paired_replies.specs.Pairs.{items_of, replies_to}
@@ -10,6 +10,7 @@ use Rattle.set_model.specs.declared.names.ReclaimerName.{ReclaimerName}
 use Rattle.set_model.specs.declared.names.ReclaimerName.TheVariants.{Nothing}
 use Rattle.set_model.specs.declared.names.SetName.{SetName}
 use Rattle.set_model.specs.declared.names.SetName.TheVariants.{Michael}
+use Rattle.run_facts.proofs.NeverFull.{never_full}
 use Rattle.run_facts.proofs.SetRuns.{run_full}
 use Rattle.run_facts.proofs.Unreclaimed.{unreclaimed}
 use Rattle.table_reports.proofs.OneHistory.{one_history}
@@ -17,6 +18,8 @@ use Rattle.table_reports.proofs.Pairs.{all_paired}
 use Rattle.bench_core.specs.declared.ending.Run.{Run}
 use Rattle.bench_core.specs.Ending.{IsPlayed}
 use Rattle.bench_core.specs.Tables.{IsHashRun, records_for}
+use Rattle.bench_core.proofs.Enough.{enough_records}
+use Rattle.hash_runs.proofs.Sparing.{none_takes_spare_first}
 use Rattle.bench_core.proofs.tables.play_hash.Goals as goal
 
 pub report_table-report-requires-clause-pairs : goal.report_table-report-requires-clause-pairs
@@ -42,6 +45,7 @@ returns g c =
       history = one_history michael none (MakesPiece none_manner) (2 * records + 64) (setup_with records chosen.buckets (length lists) 1 Michael Nothing Bump) lists report.callers report.counts closed run told.calls (run.fits.whole.unhelped (λ helped. helped));
       keys = told.keys;
       caused = run_full run;
+      enough = λ has. never_full run (none_takes_spare_first (none_setup records chosen.buckets (length lists))) refl (enough_records chosen c.args.workload c.requires.set c.requires.playable.few_buckets c.callers.ensures.limits has);
       unreclaimed = unreclaimed run;
     } in
     record {
