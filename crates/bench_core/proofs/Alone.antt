@@ -28,6 +28,7 @@ use Rattle.run_facts.specs.Unshared.{NoneIsFull}
 use Rattle.bench_core.specs.Ending.{IsMade, IsRun, any_full, has_full}
 use Rattle.bench_core.specs.Settings.{played_as}
 use Rattle.bench_core.specs.Tables.{IsHashRun}
+use Rattle.bench_core.proofs.NeverFull.{run-not_full}
 use Rattle.bench_core.proofs.PlayedPairs.{by_pair}
 use Rattle.bench_core.proofs.NoneFull.{none_is_full}
 use Rattle.bench_core.specs.Plays.{AreAlone, IsPlainRun, pieces_in, order_of, told_to}
@@ -134,9 +135,9 @@ hash_alone sizes unshared plan is report closed chosen run calls no_full = λ ca
     ∙ ap (λ calls. replies_of calls empty) (calls_joined plan.lists caller one.calls called)
 
 -- a trial on a set that is played
-pub trial_alone : (chosen : TrialWords) → chosen.workload.shared ≡ false → (plan : Plan) → IsMade chosen.workload plan → (run : Run) → IsRun (played_as chosen) plan run
-    → has_full run.report.callers ≡ false → AreAlone run.report.callers
-trial_alone chosen unshared plan made run r no_full =
+pub trial_alone : (chosen : TrialWords) → chosen.workload.shared ≡ false → (plan : Plan) → IsMade chosen.workload plan → (run : Run) → IsRun (played_as chosen) plan run → AreAlone run.report.callers
+trial_alone chosen unshared plan made run r =
+    let no_full = run-not_full chosen.set chosen.reclaimer (played_as chosen) plan run r.played tt in
     let own : made.0.shared ≡ false = made.1.shared ∙ unshared in
     by_pair (AreAlone run.report.callers) chosen.set chosen.reclaimer (played_as chosen) plan run r.played
     (λ plain none told. plain_alone made.0 own plan made.2 run.report told)

@@ -1,5 +1,5 @@
 -- What follows, fact by fact, from how a run ends.
-use Rattle.std.proofs.Common.{◌≡◌, ◌≢◌, ℕ, ◌⊎◌, inl, inr, List, [], ◌∷◌, length, Option, Some, None, IsSome, Bool, true, false, refl, sym, ap, ◌∙◌, subst, arith}
+use Rattle.std.proofs.Common.{◌≡◌, ◌≢◌, ℕ, ◌⊎◌, inl, inr, List, [], ◌∷◌, length, sum_by, Option, Some, None, IsSome, Bool, true, false, refl, sym, ap, ◌∙◌, subst, arith}
 use Rattle.std.proofs.lemmas.Bool.{false≢true}
 use Rattle.std.proofs.lemmas.Bool.Decides.{eqb_tells}
 use Rattle.command_words.proofs.Commands.{one_command}
@@ -30,8 +30,10 @@ use Rattle.set_model.specs.declared.names.ReclaimerName.TheVariants.{Nothing}
 use Rattle.set_model.specs.declared.names.ReclaimerName.{ReclaimerName}
 use Rattle.set_model.specs.declared.names.SetName.{SetName}
 use Rattle.set_model.specs.declared.names.SetName.TheVariants.{Plain}
+use Rattle.set_model.specs.Machine.{insertions_in}
 use Rattle.table_reports.specs.History.{IsOneHistory}
 use Rattle.table_reports.specs.Reports.{TellsKeys, RepliesAddUp}
+use Rattle.workload_text.proofs.Held.{some_is}
 use Rattle.workload_text.proofs.TextLength.{length-text_of-le}
 use Rattle.workload_text.specs.Limits.{Plan, joined}
 use Rattle.workload_text.specs.Text.{text_of}
@@ -39,15 +41,16 @@ use Rattle.bench_core.specs.declared.ending.Ended.{Ended}
 use Rattle.bench_core.specs.declared.ending.Run.{Run}
 use Rattle.bench_core.specs.declared.ending.Verdict.{Verdict}
 use Rattle.bench_core.specs.declared.ending.Verdict.TheVariants as verdict
-use Rattle.bench_core.specs.Clauses.{AreAllowed, AreNotRead, AreRead, AreUnlawful, ArePlayed, GaveRefused, GaveSomeWorkload, HoldsWorkload, IsDone, IsPlayOf, IsQuiet, IsRunOf, IsStopped, IsTrialOf, NamesPair}
+use Rattle.bench_core.specs.Clauses.{AreAllowed, AreNotRead, AreRead, AreUnlawful, ArePlayed, GaveRefused, GaveSomeWorkload, HoldsWorkload, IsDone, IsPlayOf, IsQuiet, IsRunOf, IsStopped, IsTrialOf, LeaveEnough, NamesPair, choices_of}
 use Rattle.bench_core.specs.Reading.{Gave, GaveFew, GaveTooMany}
 use Rattle.bench_core.proofs.ReadingLemmas.{Gave-same, GaveAll-is, Gave-length-le}
 use Rattle.bench_core.specs.Sizes.{sizes_of}
-use Rattle.bench_core.specs.Ending.{AreNoCommand, Counts, Ends, Finds, FindsIn, FindsMade, GaveNoWorkload, GaveWorkload, HasParts, HasText, IsAllowed, IsMade, NamesUnlawful, Reads, Tells, has_full, status_with, output_of, run_of, status_of, status_of_run}
+use Rattle.bench_core.specs.Ending.{AreNoCommand, Counts, Ends, Finds, FindsIn, FindsMade, GaveNoWorkload, GaveWorkload, HasParts, HasText, IsAllowed, IsMade, IsPlayed, NamesUnlawful, Reads, Tells, has_full, status_with, output_of, run_of, status_of, status_of_run}
 use Rattle.bench_core.specs.Plays.{AreAlone}
 use Rattle.bench_core.specs.Settings.{played_as}
-use Rattle.bench_core.specs.Tables.{IsHashRun}
+use Rattle.bench_core.specs.Tables.{IsHashRun, all_insertions}
 use Rattle.bench_core.proofs.Alone.{trial_alone}
+use Rattle.bench_core.proofs.Enough.{same_enough}
 use Rattle.bench_core.proofs.NeverFull.{run-not_full}
 use Rattle.bench_core.proofs.PlayedPairs.{frees_none, has_table, on_table}
 use Rattle.bench_core.proofs.Telling.{status_of_run-is}
@@ -350,11 +353,22 @@ module _ {S K : Type 0} {left : S → Option (List ℕ)} {source_faults : S → 
     | inr trial ↦ let words = played_as trial.chosen in has_table words.set words.reclaimer words trial.plan r trial.played.played trial.played.set_is
   ]
 
-  pub never_full : (r : Run) → ended.run ≡ Some r → r.report.set ≡ Plain → has_full r.report.callers ≡ false
-  never_full r is plain = elim (run r is).2 [
-    | inl play ↦ run-not_full play.chosen.set play.chosen.reclaimer play.chosen play.plan r play.played.played play.played.set_is plain
-    | inr trial ↦ let words = played_as trial.chosen in run-not_full words.set words.reclaimer words trial.plan r trial.played.played trial.played.set_is plain
+  -- a run was played as its words choose
+  as_chosen : (r : Run) → ended.run ≡ Some r → (chosen : Command) → IsCommand words chosen → (own : PlayWords) → choices_of chosen ≡ Some own → (plan : Plan) × (calls_of r.report.callers ≡ joined plan.lists) × IsPlayed own.set own.reclaimer own plan r
+  as_chosen r is chosen named own chooses = elim (run r is).2 [
+    | inl play ↦
+        let same : play.chosen ≡ own = some_is play.chosen own (ap choices_of (one_command words (command.Play play.chosen) chosen play.named named) ∙ chooses) in
+        (play.plan, play.played.calls, subst (λ (w : PlayWords). IsPlayed w.set w.reclaimer w play.plan r) same play.played.played)
+    | inr trial ↦
+        let same : played_as trial.chosen ≡ own = some_is (played_as trial.chosen) own (ap choices_of (one_command words (command.Trial trial.chosen) chosen trial.named named) ∙ chooses) in
+        (trial.plan, trial.played.calls, subst (λ (w : PlayWords). IsPlayed w.set w.reclaimer w trial.plan r) same trial.played.played)
   ]
+
+  pub never_full : (r : Run) → ended.run ≡ Some r → LeaveEnough words r → has_full r.report.callers ≡ false
+  never_full r is leave =
+      let p = as_chosen r is leave.command leave.named leave.chosen leave.chooses in
+      let same : all_insertions leave.lists ≡ all_insertions p.0.lists = ap (λ (calls : List (List Call)). sum_by insertions_in calls) (sym leave.calls ∙ p.1) in
+      run-not_full leave.chosen.set leave.chosen.reclaimer leave.chosen p.0 r p.2 (same_enough leave.chosen leave.lists p.0.lists same leave.enough)
 
   five_found : (found : Verdict) → status_of found ≡ 5 → (run : Run) × (run_of found ≡ Some run) × (has_full run.report.callers ≡ true)
   five_found verdict.WordsRefused is = absurd (omega arith)
@@ -566,10 +580,10 @@ module _ {S K : Type 0} {left : S → Option (List ℕ)} {source_faults : S → 
     | inr there ↦ trial_run there.0 e.found (done_is is) (of_command (command.Trial there.0) there.1)
   ])
 
-  pub alone : (chosen : TrialWords) → IsCommand words (command.Trial chosen) → (run : Run) → ended.run ≡ Some run → has_full run.report.callers ≡ false → AreAlone run.report.callers
-  alone chosen named r is no_full = elim (run r is).2 [
+  pub alone : (chosen : TrialWords) → IsCommand words (command.Trial chosen) → (run : Run) → ended.run ≡ Some run → AreAlone run.report.callers
+  alone chosen named r is = elim (run r is).2 [
     | inl play ↦ absurd (let same : command.Trial chosen ≡ command.Play play.chosen = one_command words (command.Trial chosen) (command.Play play.chosen) named play.named in cc)
-    | inr trial ↦ trial_alone trial.chosen (not_shared words trial.chosen trial.named.0) trial.plan trial.made r trial.played no_full
+    | inr trial ↦ trial_alone trial.chosen (not_shared words trial.chosen trial.named.0) trial.plan trial.made r trial.played
   ]
 
 -- a text that was made isn't empty

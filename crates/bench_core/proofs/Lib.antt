@@ -1,4 +1,5 @@
 pub mod Alone
+pub mod Enough
 pub mod Clauses
 pub mod NeverFull
 pub mod NoneFull

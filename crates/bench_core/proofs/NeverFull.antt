@@ -1,22 +1,26 @@
--- On a plain set no call is answered full.
-use Rattle.std.proofs.Common.{◌≡◌, ℕ, suc, Bool, true, false, cond, eqb, Some, List, [], ◌∷◌, ◌++◌, slice_get, refl, sym, ap, ◌∙◌}
+-- No call is answered full where the records are enough: a plain set needs none.
+use Rattle.std.proofs.Common.{◌≡◌, ◌≢◌, ℕ, suc, Bool, true, false, cond, eqb, Some, List, [], ◌∷◌, ◌++◌, slice_get, refl, sym, ap, ◌∙◌}
+use Rattle.std.specs.List.{AllByRecursion}
 use Rattle.std.proofs.lemmas.Bool.{false≢true}
+use Rattle.std.proofs.lemmas.List.Elements.{recursion_from_All}
 use Rattle.set_model.specs.declared.calls.Call.{Call}
 use Rattle.set_model.specs.declared.calls.Reply.{Reply}
 use Rattle.set_model.specs.declared.calls.Reply.TheVariants.{Yes, No, Full}
 use Rattle.set_model.specs.declared.names.ReclaimerName.{ReclaimerName}
 use Rattle.set_model.specs.declared.names.SetName.{SetName}
-use Rattle.set_model.specs.declared.names.SetName.TheVariants.{Plain, Michael}
 use Rattle.set_model.specs.Keys.{Keys, empty}
 use Rattle.set_model.specs.Machine.{answer_of, keys_after, keys_after_all, reply_of_answer, replies_of}
 use Rattle.command_words.specs.declared.command.PlayWords.{PlayWords}
+use Rattle.paired_replies.specs.Pairs.{replies_to}
 use Rattle.report_text.specs.declared.report.Played.{Played}
 use Rattle.report_text.specs.declared.report.Report.{Report}
+use Rattle.run_facts.specs.Unshared.{NoneIsFull}
 use Rattle.workload_text.specs.Limits.{Plan}
 use Rattle.bench_core.specs.declared.ending.Run.{Run}
 use Rattle.bench_core.specs.Ending.{IsPlayed, any_full, has_full}
 use Rattle.bench_core.proofs.PlayedPairs.{by_pair}
 use Rattle.bench_core.specs.Plays.{IsPlainRun, Piece, order_of, told_to}
+use Rattle.bench_core.specs.Tables.{HasEnough}
 
 any_full-append : (xs ys : List Reply) → any_full xs ≡ false → any_full ys ≡ false → any_full (xs ++ ys) ≡ false
 any_full-append [] ys first second = second
@@ -55,9 +59,19 @@ plain-not_full : (plan : Plan) (report : Report) → IsPlainRun plan report → 
 plain-not_full plan report played =
     callers-not_full report.callers (λ caller one there. ap any_full (played.replies caller one there) ∙ told-not_full caller (order_of plan.lists) empty)
 
--- a set that joins needs that its name isn't the plain set's
-pub run-not_full : (set : SetName) (reclaimer : ReclaimerName) (chosen : PlayWords) (plan : Plan) (run : Run) → IsPlayed set reclaimer chosen plan run → run.report.set ≡ set → run.report.set ≡ Plain
-    → has_full run.report.callers ≡ false
-run-not_full set reclaimer chosen plan run played is plain = by_pair (has_full run.report.callers ≡ false) set reclaimer chosen plan run played
+-- replies of which none is full
+own_told : (replies : List Reply) → AllByRecursion (λ reply. reply ≢ Full) replies → any_full replies ≡ false
+own_told [] none = refl
+own_told (Yes ∷ replies) none = own_told replies none.1
+own_told (No ∷ replies) none = own_told replies none.1
+own_told (Full ∷ replies) none = absurd (none.0 refl)
+
+none_told : (callers : List Played) → AllByRecursion NoneIsFull (replies_to callers) → has_full callers ≡ false
+none_told [] none = refl
+none_told (played ∷ callers) none = rw (own_told played.replies (recursion_from_All (λ (reply : Reply). reply ≢ Full) played.replies none.0)) (none_told callers none.1)
+
+-- no call is answered full where the records are enough
+pub run-not_full : (set : SetName) (reclaimer : ReclaimerName) (chosen : PlayWords) (plan : Plan) (run : Run) → IsPlayed set reclaimer chosen plan run → HasEnough chosen plan.lists → has_full run.report.callers ≡ false
+run-not_full set reclaimer chosen plan run played enough = by_pair (has_full run.report.callers ≡ false) set reclaimer chosen plan run played
     (λ own none told. plain-not_full plan run.report told)
-    (λ hash closed there told. absurd (let differ : Michael ≡ Plain = sym (is ∙ hash) ∙ plain in cc))
+    (λ hash closed there told. none_told run.report.callers (recursion_from_All NoneIsFull (replies_to run.report.callers) (told.enough enough)))

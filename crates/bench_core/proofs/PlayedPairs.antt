@@ -1,7 +1,6 @@
 -- What was played, pair by pair.
-use Rattle.std.proofs.Common.{◌≡◌, ℕ, Option, Some, None, List, refl, sym, ap, ◌∙◌, subst}
+use Rattle.std.proofs.Common.{◌≡◌, Some, None, refl, sym, ◌∙◌, subst}
 use Rattle.command_words.specs.declared.command.PlayWords.{PlayWords}
-use Rattle.paired_replies.specs.Pairs.{calls_of}
 use Rattle.record_table.specs.declared.closing.Closed.{Closed}
 use Rattle.run_facts.specs.Unreclaimed.{IsUnreclaimed}
 use Rattle.set_model.specs.declared.names.ReclaimerName.{ReclaimerName}
@@ -9,10 +8,10 @@ use Rattle.set_model.specs.declared.names.ReclaimerName.TheVariants.{Nothing, De
 use Rattle.set_model.specs.declared.names.SetName.{SetName}
 use Rattle.set_model.specs.declared.names.SetName.TheVariants.{Plain, Michael, Lazy}
 use Rattle.workload_text.proofs.Held.{some_is}
-use Rattle.workload_text.specs.Limits.{Plan, joined}
+use Rattle.workload_text.specs.Limits.{Plan}
 use Rattle.bench_core.specs.declared.ending.Run.{Run}
 use Rattle.bench_core.specs.Ending.{IsPlayed}
-use Rattle.bench_core.specs.Plays.{IsPlainRun, no_counts}
+use Rattle.bench_core.specs.Plays.{IsPlainRun}
 use Rattle.bench_core.specs.Tables.{IsHashRun}
 
 -- the pairs that are played are these; one that joins adds a case

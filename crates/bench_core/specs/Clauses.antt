@@ -1,19 +1,22 @@
 -- What the clauses of the whole program say of words, of what was read, and of statuses.
-use Rattle.std.specs.Prelude.{◌≡◌, ℕ, ◌⊎◌, List, Option, Some}
+use Rattle.std.specs.Prelude.{◌≡◌, ℕ, ◌⊎◌, List, Option, Some, None}
 use Rattle.command_words.specs.Commands.{IsCommand}
 use Rattle.command_words.specs.declared.command.Command.{Command}
 use Rattle.command_words.specs.declared.command.Command.TheVariants as command
 use Rattle.command_words.specs.declared.command.PlayWords.{PlayWords}
 use Rattle.command_words.specs.declared.command.TrialWords.{TrialWords}
 use Rattle.lawful_pairs.specs.declared.Unlawful.{Unlawful}
+use Rattle.paired_replies.specs.Pairs.{calls_of}
 use Rattle.report_text.specs.ReportText.{report_text}
 use Rattle.report_text.specs.SummaryText.{summary_text}
 use Rattle.report_text.specs.declared.refusal.WorkloadRefusal.{WorkloadRefusal}
-use Rattle.workload_text.specs.Limits.{Plan}
+use Rattle.set_model.specs.declared.calls.Call.{Call}
+use Rattle.workload_text.specs.Limits.{Plan, joined}
 use Rattle.workload_text.specs.Text.{IsTextOf}
 use Rattle.bench_core.specs.declared.ending.Run.{Run}
 use Rattle.bench_core.specs.Ending.{GaveNoWorkload, GaveWorkload, IsAllowed, IsMade, IsRun, NamesUnlawful, Reads}
 use Rattle.bench_core.specs.Settings.{played_as}
+use Rattle.bench_core.specs.Tables.{HasEnough}
 
 -- the words name a command that reads a workload
 abbrev pub AreRead : List (List ℕ) → Type 0
@@ -38,6 +41,24 @@ NamesPair words pair = (chosen : Command) × IsCommand words chosen × NamesUnla
 -- the words are those of `play`, or of `trial`
 abbrev pub ArePlayed : List (List ℕ) → Type 0
 ArePlayed words = ((chosen : PlayWords) × IsCommand words (command.Play chosen)) ⊎ ((chosen : TrialWords) × IsCommand words (command.Trial chosen))
+
+-- what a command that plays chooses of the set and its table
+abbrev pub choices_of : Command → Option PlayWords
+choices_of (command.Play chosen) = Some chosen
+choices_of command.Check = None
+choices_of (command.Generate chosen) = None
+choices_of (command.Trial chosen) = Some (played_as chosen)
+
+-- The words choose a record for each root and for each insertion of these callers, or leave it to the program how many
+-- there are, as those of `trial` do
+pub record LeaveEnough (words : List (List ℕ)) (run : Run) : Type 0 where
+  pub command : Command
+  pub named : IsCommand words command
+  pub chosen : PlayWords
+  pub chooses : choices_of command ≡ Some chosen
+  pub lists : List (List (List Call))
+  pub calls : calls_of run.report.callers ≡ joined lists
+  pub enough : HasEnough chosen lists
 
 -- the bytes were read to the end, and are a workload
 abbrev pub GaveSomeWorkload : {S : Type 0} → (S → Option (List ℕ)) → S → S → Type 0

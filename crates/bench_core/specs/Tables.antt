@@ -1,5 +1,5 @@
 -- Runs on a table of records: how many records it has, and what such a run reports.
-use Rattle.std.specs.Prelude.{ℕ, ◌+◌, List, length, sum_by, min, Option, Some, None}
+use Rattle.std.specs.Prelude.{ℕ, ◌+◌, ◌≤◌, List, All, length, sum_by, min, Option, Some, None, IfSome}
 use Rattle.set_model.specs.declared.calls.Call.{Call}
 use Rattle.set_model.specs.declared.names.SetName.{SetName}
 use Rattle.set_model.specs.declared.names.SetName.TheVariants.{Plain, Michael, Lazy}
@@ -15,6 +15,7 @@ use Rattle.hash_runs.specs.HashRuns.{IsNoneRun, hops_for, none_manner, none_setu
 use Rattle.list_facts.specs.Michael.{michael}
 use Rattle.run_facts.specs.Fullness.{AreCaused}
 use Rattle.run_facts.specs.Unreclaimed.{IsUnreclaimed}
+use Rattle.run_facts.specs.Unshared.{NoneIsFull}
 use Rattle.workload_text.specs.Limits.{joined}
 use Rattle.table_reports.specs.History.{IsOneHistory}
 use Rattle.table_reports.specs.Reports.{TellsKeys, RepliesAddUp}
@@ -43,6 +44,10 @@ records_chosen None need = min need 1048575
 abbrev pub records_for : PlayWords → List (List (List Call)) → ℕ
 records_for chosen lists = records_chosen chosen.records (needed chosen.set (roots_in chosen.set chosen.buckets) lists)
 
+-- the words choose as many records as are needed, or leave it to the program how many there are
+abbrev pub HasEnough : PlayWords → List (List (List Call)) → Type 0
+HasEnough chosen lists = IfSome chosen.records (λ records. needed chosen.set (roots_in chosen.set chosen.buckets) lists ≤ records)
+
 -- The callers played these lists on a hash table without reclamation, which they closed. The counts are those of that
 -- run, the replies are those of the closed table's one history, and so are the number of keys and their sum, which are
 -- also what the replies add up to.
@@ -54,4 +59,6 @@ pub record IsHashRun (chosen : PlayWords) (lists : List (List (List Call))) (rep
   -- a reply `full` has its cause
   pub caused : AreCaused (MakesPiece none_manner (none_setup (records_for chosen lists) chosen.buckets (length lists))) (hops_for (records_for chosen lists))
       (none_setup (records_for chosen lists) chosen.buckets (length lists)) none.first lists (replies_to report.callers) played.bounds (closed_books closed)
+  -- and where the records are enough, none is there
+  pub enough : HasEnough chosen lists → All NoneIsFull (replies_to report.callers)
   pub unreclaimed : IsUnreclaimed report.counts

@@ -22,7 +22,7 @@ ghost use Rattle.table_reports.specs.History.{IsOneHistory};
 ghost use Rattle.table_reports.specs.Reports.{TellsKeys, RepliesAddUp};
 ghost use Rattle.workload_text.specs.Limits.{Plan, joined};
 ghost use Rattle.workload_text.specs.Text.{text_of};
-ghost use Rattle.bench_core.specs.Clauses.{AreAllowed, AreNotRead, AreRead, AreUnlawful, ArePlayed, GaveRefused, GaveSomeWorkload, HoldsWorkload, IsDone, IsQuiet, IsRunOf, IsStopped, NamesPair};
+ghost use Rattle.bench_core.specs.Clauses.{AreAllowed, AreNotRead, AreRead, AreUnlawful, ArePlayed, GaveRefused, GaveSomeWorkload, HoldsWorkload, IsDone, IsQuiet, IsRunOf, IsStopped, LeaveEnough, NamesPair};
 ghost use Rattle.bench_core.specs.Ending.{AreNoCommand, Ends, Finds, GaveNoWorkload, GaveWorkload, IsMade, has_full, output_of, run_of};
 ghost use Rattle.bench_core.specs.Plays.{AreAlone};
 ghost use Rattle.bench_core.specs.Reading.{GaveTooMany};
@@ -99,14 +99,15 @@ pub fn setbench<T: Threads + Wait + Sync, S: Source, K: Sink, G: Gate + Sync>(
     ensures adds_up { (run : Run) (closed : Closed) → result.run ≡ Some run → run.closed ≡ Some closed → RepliesAddUp run.report }
     ensures unreclaimed { (run : Run) → result.run ≡ Some run → run.report.reclaimer ≡ Nothing → IsUnreclaimed run.report.counts }
 
-    // The callers of a trial share no key, so where none is told `full` each is told what it would be told alone.
+    // The callers of a trial share no key, so each is told what it would be told alone.
     ensures alone { (chosen : TrialWords) → IsCommand (texts_of words.now) (command.Trial chosen)
-        → (run : Run) → result.run ≡ Some run → has_full run.report.callers ≡ false → AreAlone run.report.callers }
+        → (run : Run) → result.run ≡ Some run → AreAlone run.report.callers }
     ensures full { (result.status ≡ 5) ↔ ((run : Run) × (result.run ≡ Some run)
         × (has_full run.report.callers ≡ true) × (result.status ≢ 7)) }
 
-    // A plain set needs no records, so no call on one is answered full.
-    ensures never_full { (run : Run) → result.run ≡ Some run → run.report.set ≡ Plain → has_full run.report.callers ≡ false }
+    // No call is answered full where the words leave it to the program how many records there are, or choose one for each
+    // root and each insertion. A plain set needs none.
+    ensures never_full { (run : Run) → result.run ≡ Some run → LeaveEnough (texts_of words.now) run → has_full run.report.callers ≡ false }
 
     // What is written where no run is told of: the line of a refusal, that of `check`, or a workload's text.
     ensures words_line { result.status ≡ 2 → Wrote K.got sink.old sink.new (refusal_text refusal.Words) }

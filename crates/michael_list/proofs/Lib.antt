@@ -8,3 +8,4 @@ mod Steps
 pub mod Ends
 mod Inserted
 mod Marking
+pub mod Stock

@@ -3,9 +3,7 @@ use Rattle.std.proofs.Common.{◌≡◌, ℕ, ◌+◌, ◌%◌, ◌<◌, Bool, t
 use Rattle.std.proofs.lemmas.Bool.{eq-eqb}
 use Rattle.set_model.specs.Keys.{contains}
 use Rattle.set_model.specs.Histories.{keys_of}
-use Rattle.record_memory.specs.declared.books.View.{View}
-use Rattle.record_memory.specs.declared.books.Setup.{Setup}
-use Rattle.row_words.specs.Refs.{RefParts, LinkParts}
+use Rattle.row_words.specs.Refs.{LinkParts}
 use Rattle.row_words.specs.Packing.{link_in, key_in, packed_link, IsLink}
 use Rattle.row_words.proofs.Packed.{link_in-packed_link}
 use Rattle.record_rule.specs.Facts.{At as Stands, CoverFacts, mark_bit, HasMark, link_at, key_at}

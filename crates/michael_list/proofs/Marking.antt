@@ -1,13 +1,13 @@
 -- What the mark of a record leaves: its removal is decided, and its link is known from then on.
-use Rattle.std.proofs.Common.{◌≡◌, ℕ, ◌+◌, ◌-◌, true, eqb, Some, refl, sym, ap, ◌∙◌, subst, arith}
+use Rattle.std.proofs.Common.{◌≡◌, ℕ, ◌+◌, ◌-◌, true, eqb, Some, refl, ap, ◌∙◌, arith}
 use Rattle.set_model.specs.declared.calls.Call.TheVariants.{Remove}
 use Rattle.record_memory.specs.declared.books.Setup.{Setup}
 use Rattle.record_memory.specs.declared.books.View.{View}
 use Rattle.row_words.specs.Refs.{LinkParts}
-use Rattle.row_words.specs.Packing.{packed_link, link_in, IsLink}
+use Rattle.row_words.specs.Packing.{link_in, IsLink}
 use Rattle.row_words.proofs.Packed.{link_in-packed_link}
-use Rattle.record_rule.specs.Facts.{At as Stands, mark_bit, link_at}
-use Rattle.record_rule.specs.Links.{Origin, near_of, note_in, ExchangedLink}
+use Rattle.record_rule.specs.Facts.{mark_bit, link_at}
+use Rattle.record_rule.specs.Links.{Origin, near_of, ExchangedLink}
 use Rattle.list_facts.specs.Michael.{michael}
 use Rattle.list_facts.specs.Steps.{list_settled, marked_with, MayMark}
 use Rattle.record_table.specs.declared.passes.Pass.{Pass}

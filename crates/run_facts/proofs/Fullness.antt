@@ -54,7 +54,7 @@ module _ {steps : Call → ℕ → Answer → Book → Book → Type 0} {budget 
       subst (λ l. Goes steps budget l u w) (sym (with_more calls (call ∷ []) replies (r ∷ []) (turns_long before))) (Goes.turn (turns_go before) turn)
 
   -- what a caller played phase by phase
-  phases_go : {phases : List (List Call)} {replies : List Reply} {bounds : List ℕ} {u v : View} → Phases steps budget phases replies bounds u v → Goes steps budget (with_replies (calls_of_all phases) replies) u v
+  pub phases_go : {phases : List (List Call)} {replies : List Reply} {bounds : List ℕ} {u v : View} → Phases steps budget phases replies bounds u v → Goes steps budget (with_replies (calls_of_all phases) replies) u v
   phases_go Phases.none = Goes.none
   phases_go (Phases.next {phases = phases} {calls = calls} {before = before} {replies = replies} {u = u} {x = x} earlier met turns) =
       let all : calls_of_all (phases ++ calls ∷ []) ≡ calls_of_all phases ++ calls = flat_map-append (λ (l : List Call). l) phases (calls ∷ []) ∙ ap (λ l. calls_of_all phases ++ l) (append-nil calls) in

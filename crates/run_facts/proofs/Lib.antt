@@ -6,3 +6,5 @@ pub mod AloneRuns
 pub mod GeneratedRuns
 pub mod SetRuns
 pub mod Unreclaimed
+pub mod Drawing
+pub mod NeverFull

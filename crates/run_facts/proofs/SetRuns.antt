@@ -14,9 +14,7 @@ use Rattle.record_rule.proofs.Lists.{at_below}
 use Rattle.record_table.specs.Closing.{closed_books}
 use Rattle.record_table.specs.declared.closing.Closed.{Closed}
 use Rattle.set_api.specs.declared.answer.Answer.{Answer}
-use Rattle.set_runs.specs.Playing.{phases_of}
-use Rattle.set_runs.specs.Runs.{IsCallersPlay, IsSetRun}
-use Rattle.run_facts.specs.Replies.{with_replies}
+use Rattle.set_runs.specs.Runs.{IsSetRun}
 use Rattle.run_facts.specs.Fullness.{AreCaused}
 use Rattle.run_facts.specs.Unshared.{calls_by, ShareNoKey, NoneIsFull}
 use Rattle.run_facts.proofs.AloneRuns.{got_at, at_got, unhelped_answered, legal_runs, alone_runs}

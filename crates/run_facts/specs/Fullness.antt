@@ -1,9 +1,10 @@
 -- What it means that a caller was told that no record is left.
-use Rattle.std.specs.Prelude.{◌≡◌, ℕ, List, [], ◌∷◌, ◌++◌, length, Some, slice_get}
+use Rattle.std.specs.Prelude.{◌≡◌, ℕ, ◌+◌, ◌≤◌, List, [], ◌∷◌, ◌++◌, length, sum_by, Some, slice_get}
 use Rattle.set_model.specs.declared.calls.Call.{Call}
 use Rattle.set_model.specs.declared.calls.Call.TheVariants.{Insert}
 use Rattle.set_model.specs.declared.calls.Reply.{Reply}
 use Rattle.set_model.specs.declared.calls.Reply.TheVariants as reply
+use Rattle.set_model.specs.Machine.{insertions_in}
 use Rattle.record_memory.specs.declared.books.Book.{Book}
 use Rattle.record_memory.specs.declared.books.Guard.{Guard}
 use Rattle.record_memory.specs.declared.books.Setup.{Setup}
@@ -11,6 +12,7 @@ use Rattle.record_memory.specs.declared.books.View.{View}
 use Rattle.set_api.specs.declared.answer.Answer.{Answer}
 use Rattle.set_api.specs.declared.answer.Answer.TheVariants.{Full}
 use Rattle.set_api.specs.Turns.{Makes, Repeats, Turn, Met}
+use Rattle.workload_text.specs.Limits.{joined}
 use Rattle.set_runs.specs.Playing.{phases_of}
 use Rattle.set_runs.specs.Runs.{IsCallersPlay}
 use Rattle.run_facts.specs.Replies.{with_replies}
@@ -50,3 +52,7 @@ abbrev pub AreCaused : (Call → ℕ → Answer → Book → Book → Type 0) �
 AreCaused steps budget setup first lists replies bounds books = (i n : ℕ) (own : List Reply) → slice_get replies i ≡ Some own → slice_get own n ≡ Some reply.Full
     → (book : Book) × (slice_get books i ≡ Some book) × (p : IsCallersPlay steps budget setup first i (phases_of lists i) own bounds book)
     × WasFull steps budget (with_replies (calls_by lists i) own) n p.start p.left
+
+-- There is a record for each root and for each insertion of these lists
+abbrev pub HasRoom : Setup → List (List (List Call)) → Type 0
+HasRoom setup lists = setup.roots + sum_by insertions_in (joined lists) ≤ setup.records

@@ -2,7 +2,7 @@ use Rattle.std.proofs.Common.{◌+◌, ◌*◌, length, Some, refl, sym, ◌∙�
 use Rattle.cover_facts.specs.Keeping.{none}
 use Rattle.key_sums.proofs.ClosedBalance.{closed_balance}
 use Rattle.list_facts.proofs.ListEnds.{michael_lists}
-use Rattle.hash_runs.specs.HashRuns.{IsNoneRun, none_manner}
+use Rattle.hash_runs.specs.HashRuns.{IsNoneRun, none_manner, none_setup}
 use Rattle.list_facts.specs.Michael.{michael}
 use Rattle.michael_hash.specs.Pieces.{MakesPiece}
 use Rattle.listed.specs.Vectors.{items_of}
@@ -13,6 +13,7 @@ use Rattle.set_model.specs.declared.names.ReclaimerName.{ReclaimerName}
 use Rattle.set_model.specs.declared.names.ReclaimerName.TheVariants.{Nothing}
 use Rattle.set_model.specs.declared.names.SetName.{SetName}
 use Rattle.set_model.specs.declared.names.SetName.TheVariants.{Michael}
+use Rattle.run_facts.proofs.NeverFull.{never_full}
 use Rattle.run_facts.proofs.SetRuns.{run_full}
 use Rattle.run_facts.proofs.Unreclaimed.{unreclaimed}
 use Rattle.table_reports.proofs.AddingUp.{replies_add_up}
@@ -21,6 +22,8 @@ use Rattle.table_reports.proofs.Pairs.{all_paired}
 use Rattle.bench_core.specs.declared.ending.Run.{Run}
 use Rattle.bench_core.specs.Ending.{IsPlayed}
 use Rattle.bench_core.specs.Tables.{IsHashRun, records_for}
+use Rattle.bench_core.proofs.Enough.{enough_records}
+use Rattle.hash_runs.proofs.Sparing.{none_takes_spare_first}
 use Rattle.bench_core.proofs.tables.play_hash.Goals as goal
 
 pub report_table-report-requires-clause-pairs : goal.report_table-report-requires-clause-pairs
@@ -48,6 +51,7 @@ returns g c =
       keys = told.keys;
       adds_up = replies_add_up closed report (closed_balance michael_lists closed run.fits) told.keys history;
       caused = run_full run;
+      enough = λ has. never_full run (none_takes_spare_first (none_setup records chosen.buckets (length lists))) refl (enough_records chosen c.args.workload c.requires.set c.requires.playable.few_buckets c.callers.ensures.limits has);
       unreclaimed = unreclaimed run;
     } in
     record {
