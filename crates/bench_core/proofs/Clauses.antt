@@ -41,7 +41,7 @@ use Rattle.bench_core.specs.declared.ending.Ended.{Ended}
 use Rattle.bench_core.specs.declared.ending.Run.{Run}
 use Rattle.bench_core.specs.declared.ending.Verdict.{Verdict}
 use Rattle.bench_core.specs.declared.ending.Verdict.TheVariants as verdict
-use Rattle.bench_core.specs.Clauses.{AreAllowed, AreNotRead, AreRead, AreUnlawful, ArePlayed, GaveRefused, GaveSomeWorkload, HoldsWorkload, IsDone, IsPlayOf, IsQuiet, IsRunOf, IsStopped, IsTrialOf, LeaveEnough, NamesPair, choices_of}
+use Rattle.bench_core.specs.Clauses.{AreAllowed, AreNotRead, AreRead, AreUnlawful, ArePlayed, GaveRefused, GaveSomeWorkload, HoldsWorkload, IsDone, IsPlayOf, IsQuiet, IsRunOf, IsStopped, IsTrialOf, LeaveEnough, NamesPair, WasGiven, choices_of}
 use Rattle.bench_core.specs.Reading.{Gave, GaveFew, GaveTooMany}
 use Rattle.bench_core.proofs.ReadingLemmas.{Gave-same, GaveAll-is, Gave-length-le}
 use Rattle.bench_core.specs.Sizes.{sizes_of}
@@ -332,8 +332,13 @@ module _ {S K : Type 0} {left : S → Option (List ℕ)} {source_faults : S → 
     | inr trial ↦ let words = played_as trial.chosen in (words, trial.plan.lists, trial.played.calls, on_table words.set words.reclaimer words trial.plan r trial.played.played closed there)
   ]
 
-  pub one_history : (r : Run) (closed : Closed) → ended.run ≡ Some r → r.closed ≡ Some closed → (lists : List (List (List Call))) × (calls_of r.report.callers ≡ joined lists) × IsOneHistory michael lists r.report.callers closed
-  one_history r closed is there = let t = table_run r closed is there in (t.1, t.2, t.3.history)
+  pub one_history : (r : Run) (closed : Closed) → ended.run ≡ Some r → r.closed ≡ Some closed
+      → (plan : Plan) × WasGiven left source source' words plan × (calls_of r.report.callers ≡ joined plan.lists) × IsOneHistory michael plan.lists r.report.callers closed
+  one_history r closed is there = elim (run r is).2 [
+    | inl play ↦ (play.plan, inl (play.chosen, play.named, play.gave), play.played.calls, (on_table play.chosen.set play.chosen.reclaimer play.chosen play.plan r play.played.played closed there).history)
+    | inr trial ↦ let own = played_as trial.chosen in
+        (trial.plan, inr (trial.chosen, trial.named, trial.made), trial.played.calls, (on_table own.set own.reclaimer own trial.plan r trial.played.played closed there).history)
+  ]
 
   pub keys : (r : Run) (closed : Closed) → ended.run ≡ Some r → r.closed ≡ Some closed → TellsKeys closed r.report
   keys r closed is there = (table_run r closed is there).3.keys

@@ -84,6 +84,11 @@ IsQuiet status = (status ≡ 6) ⊎ (status ≡ 8)
 abbrev pub IsStopped : ℕ → Type 0
 IsStopped status = IsQuiet status ⊎ (status ≡ 7)
 
+-- the workload that was played: of `play` the one that was read, of `trial` the one that was made
+abbrev pub WasGiven : {S : Type 0} → (S → Option (List ℕ)) → S → S → List (List ℕ) → Plan → Type 0
+WasGiven left before after words plan = ((chosen : PlayWords) × IsCommand words (command.Play chosen) × GaveWorkload left before after plan)
+    ⊎ ((chosen : TrialWords) × IsCommand words (command.Trial chosen) × IsMade chosen.workload plan)
+
 -- What was played and what its text is: of `play` the workload that was read and the report, of `trial` the workload
 -- that was made and the summary.
 pub record IsPlayOf {S : Type 0} (left : S → Option (List ℕ)) (before after : S) (words : List (List ℕ)) (run : Run) (text : List ℕ) : Type 0 where

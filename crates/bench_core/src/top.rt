@@ -22,7 +22,7 @@ ghost use Rattle.table_reports.specs.History.{IsOneHistory};
 ghost use Rattle.table_reports.specs.Reports.{TellsKeys, RepliesAddUp};
 ghost use Rattle.workload_text.specs.Limits.{Plan, joined};
 ghost use Rattle.workload_text.specs.Text.{text_of};
-ghost use Rattle.bench_core.specs.Clauses.{AreAllowed, AreNotRead, AreRead, AreUnlawful, ArePlayed, GaveRefused, GaveSomeWorkload, HoldsWorkload, IsDone, IsQuiet, IsRunOf, IsStopped, LeaveEnough, NamesPair};
+ghost use Rattle.bench_core.specs.Clauses.{AreAllowed, AreNotRead, AreRead, AreUnlawful, ArePlayed, GaveRefused, GaveSomeWorkload, HoldsWorkload, IsDone, IsQuiet, IsRunOf, IsStopped, LeaveEnough, NamesPair, WasGiven};
 ghost use Rattle.bench_core.specs.Ending.{AreNoCommand, Ends, Finds, GaveNoWorkload, GaveWorkload, IsMade, has_full, output_of, run_of};
 ghost use Rattle.bench_core.specs.Plays.{AreAlone};
 ghost use Rattle.bench_core.specs.Reading.{GaveTooMany};
@@ -94,7 +94,8 @@ pub fn setbench<T: Threads + Wait + Sync, S: Source, K: Sink, G: Gate + Sync>(
     // the generation that its caller had reached. The number of keys and their sum are those of its records.
     ensures closed { (run : Run) → result.run ≡ Some run → (run.report.set ≡ Plain) ↔ (run.closed ≡ None) }
     ensures one_history { (run : Run) (closed : Closed) → result.run ≡ Some run → run.closed ≡ Some closed
-        → (lists : List (List (List Call))) × (calls_of run.report.callers ≡ joined lists) × IsOneHistory michael lists run.report.callers closed }
+        → (plan : Plan) × WasGiven S.left source.old source.new (texts_of words.now) plan
+        × (calls_of run.report.callers ≡ joined plan.lists) × IsOneHistory michael plan.lists run.report.callers closed }
     ensures keys { (run : Run) (closed : Closed) → result.run ≡ Some run → run.closed ≡ Some closed → TellsKeys closed run.report }
     ensures adds_up { (run : Run) (closed : Closed) → result.run ≡ Some run → run.closed ≡ Some closed → RepliesAddUp run.report }
     ensures unreclaimed { (run : Run) → result.run ≡ Some run → run.report.reclaimer ≡ Nothing → IsUnreclaimed run.report.counts }
