@@ -27,7 +27,7 @@ use Rattle.set_runs.specs.Runs.{IsSetRun}
 use Rattle.workload_text.proofs.Held.{some_is}
 use Rattle.workload_text.specs.Limits.{calls_of_all, joined}
 use Rattle.table_reports.specs.History.{IsOneHistory}
-use Rattle.table_reports.proofs.Pairs.{some_at}
+use Rattle.table_reports.proofs.Pairs.{all_paired, some_at}
 
 -- where nothing waits behind the history, it is the whole
 whole : (s : ShapeFacts) (closed : Closed) → (waiting : List _) → waiting ≡ []
@@ -58,6 +58,7 @@ one_history s r steps budget setup lists callers counts closed run same none =
     λ c p at. slice_get-map (λ (q : Played). q.replies) callers c ∙ ap (option_map (λ (q : Played). q.replies)) at in
     record {
       legal = whole s closed run.fits.waiting none run.fits.whole.fits;
+      replied = all_paired s r steps budget setup lists (replies_to callers) counts closed run ∙ ap (map length) (sym same);
       all_books = run.all_books ∙ sym run.all_replies ∙ length-map callers (λ (q : Played). q.replies);
       printed = λ c p b at there.
           sym (book_has_replies (run.each c p.replies b (told c p at) there) ∙ ap (λ calls. answered_among (with_replies calls p.replies)) (own_calls lists callers same c p at));

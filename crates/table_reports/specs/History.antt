@@ -1,6 +1,7 @@
 -- What a report tells of the history of a closed table.
 use Rattle.std.specs.Prelude.{◌≡◌, ℕ, List, map, length, Some, slice_get}
 use Rattle.key_sums.specs.Balances.{answered_among, answers_in}
+use Rattle.paired_replies.specs.Pairs.{calls_of, replies_to}
 use Rattle.record_memory.specs.declared.books.Book.{Book}
 use Rattle.record_memory.specs.declared.steps.Step.{Step}
 use Rattle.record_rule.specs.Facts.{At, ShapeFacts}
@@ -23,7 +24,8 @@ IsPrintedOf p b = answered_among (with_replies p.calls p.replies) ≡ answers_in
 pub record IsOneHistory (s : ShapeFacts) (lists : List (List (List Call))) (callers : List Played) (closed : Closed) : Type 0 where
   -- it is legal, each answered call stands in it once, in its caller's order, and nothing else does
   pub legal : HistoryFits s (closed_setup closed).set (history_of closed) (map answered_of (closed_books closed)) (map offer_of (closed_books closed))
-  -- and these calls are the printed ones, caller by caller
+  -- and these calls are the printed ones, caller by caller, each of which has a reply
+  pub replied : map length (replies_to callers) ≡ map length (calls_of callers)
   pub all_books : length (closed_books closed) ≡ length callers
   pub printed : (c : ℕ) (p : Played) (b : Book) → slice_get callers c ≡ Some p → slice_get (closed_books closed) c ≡ Some b → IsPrintedOf p b
   -- for each phase there is a place in the history behind all calls of earlier phases and before all others, whoever made them
