@@ -180,6 +180,9 @@ pub struct Book {
     pub notes: LinkedList<Note>,
     /// What the set keeps of what was found in each root since the guard started.
     pub root_notes: LinkedList<LinkedList<u64>>,
+    /// How many updates had taken effect at its last step that noted them: a load of a link, an
+    /// exchange of one that was made, or a step that started its guard.
+    pub updates_seen: u64,
 }
 
 /// What a pass knows: its own caller's book, the books of callers whose passes aren't split off

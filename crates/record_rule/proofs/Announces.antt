@@ -147,8 +147,12 @@ module _ (shape : ShapeFacts) (cover : CoverFacts) (shaped : ShapeLaws shape) (c
     root = roots_known (cover.begins g k value) has.start;
   }
 
-  now_is : record was { announced = set was.announced j value; guards = set was.guards c g'; roots = set was.roots c roots' } ≡ outline m' u.records (set u.books c own) u.taken_out u.updates
-  now_is = λ i. record {
+  -- its book, where that says that so many updates had taken effect
+  abbrev own_at : ℕ → Book
+  own_at n = record own { updates_seen = n }
+
+  now_is : (n : ℕ) → record was { announced = set was.announced j value; guards = set was.guards c g'; roots = set was.roots c roots' } ≡ outline m' u.records (set u.books c (own_at n)) u.taken_out u.updates
+  now_is n = λ i. record {
     shapes = map shape_cell u.records;
     schemes = map scheme_cell u.records;
     takings = map taken_cell u.records;
@@ -156,12 +160,12 @@ module _ (shape : ShapeFacts) (cover : CoverFacts) (shaped : ShapeLaws shape) (c
     announced = (ap (λ (x : Memory). x.announced) (sym put_is)) i;
     taken_out = u.taken_out;
     updates = u.updates;
-    guards = sym (map-set guard_of u.books c own) i;
-    notes = sym (map_set_same notes_of u.books c v.own own mine refl) i;
-    roots = sym (map-set roots_of u.books c own) i;
-    locks = sym (map_set_same locks_of u.books c v.own own mine refl) i;
-    answered = sym (map_set_same answered_of u.books c v.own own mine refl) i;
-    offers = sym (map_set_same offer_of u.books c v.own own mine refl) i;
+    guards = sym (map-set guard_of u.books c (own_at n)) i;
+    notes = sym (map_set_same notes_of u.books c v.own (own_at n) mine refl) i;
+    roots = sym (map-set roots_of u.books c (own_at n)) i;
+    locks = sym (map_set_same locks_of u.books c v.own (own_at n) mine refl) i;
+    answered = sym (map_set_same answered_of u.books c v.own (own_at n) mine refl) i;
+    offers = sym (map_set_same offer_of u.books c v.own (own_at n) mine refl) i;
   }
 
   parts' : Parts shape cover setup (record was { announced = set was.announced j value; guards = set was.guards c g'; roots = set was.roots c roots' })
@@ -186,9 +190,9 @@ module _ (shape : ShapeFacts) (cover : CoverFacts) (shaped : ShapeLaws shape) (c
   }
 
   -- where the records are
-  places' : Places setup u.records (set u.books c own) m'
-  places' = subst (Places setup u.records (set u.books c own)) (sym put_is) (places_beside setup u.records (set u.books c own) m m.epoch (set m.announced j value)
-      (places_calm setup u.records u.books m c v.own own mine refl refl (calm_after v.own.drawing v.setup.records t tt) u.places))
+  places' : (n : ℕ) → Places setup u.records (set u.books c (own_at n)) m'
+  places' n = subst (Places setup u.records (set u.books c (own_at n))) (sym put_is) (places_beside setup u.records (set u.books c (own_at n)) m m.epoch (set m.announced j value)
+      (places_calm setup u.records u.books m c v.own (own_at n) mine refl refl (calm_after v.own.drawing v.setup.records t tt) u.places))
 
   -- the step, and when the guard started
   made' : ((a : ℕ) (b : Step) → At v.own.steps a b → StepFits setup c b) → (a : ℕ) (b : Step) → At (v.own.steps ++ t ∷ []) a b → StepFits setup c b
@@ -224,7 +228,7 @@ module _ (shape : ShapeFacts) (cover : CoverFacts) (shaped : ShapeLaws shape) (c
         behind = own_behind shape cover setup s u id v at present;
         made = made';
         start_made = started';
-      } t refl (elsewhere m.drawn m'.drawn t (ap (λ (x : Memory). x.drawn) put_is) (λ e. cc)) places' (subst (Parts shape cover setup) now_is parts') (counts_calm setup.first u.records u.books c v.own own mine u.counts refl)
+      } t refl (elsewhere m.drawn m'.drawn t (ap (λ (x : Memory). x.drawn) put_is) (λ e. cc)) (places' (length u.updates)) (subst (Parts shape cover setup) (now_is (length u.updates)) parts') (counts_calm setup.first u.records u.books c v.own (own_at (length u.updates)) mine u.counts refl)
   announced_so false now = let f = u.seated id v at in
       stepped shape cover setup s u id v (record v { own = own }) at present words' (length-set s.words word value ∙ u.wide) u.records u.taken_out u.updates (starts_itself u.taken_out) (starts_itself u.updates) record {
         setup = refl;
@@ -240,7 +244,7 @@ module _ (shape : ShapeFacts) (cover : CoverFacts) (shaped : ShapeLaws shape) (c
         behind = own_behind shape cover setup s u id v at present;
         made = made';
         start_made = started';
-      } t refl (elsewhere m.drawn m'.drawn t (ap (λ (x : Memory). x.drawn) put_is) (λ e. cc)) places' (subst (Parts shape cover setup) now_is parts') (counts_calm setup.first u.records u.books c v.own own mine u.counts refl)
+      } t refl (elsewhere m.drawn m'.drawn t (ap (λ (x : Memory). x.drawn) put_is) (λ e. cc)) (places' v.own.updates_seen) (subst (Parts shape cover setup) (now_is v.own.updates_seen) parts') (counts_calm setup.first u.records u.books c v.own own mine u.counts refl)
 
 module _ (shape : ShapeFacts) (cover : CoverFacts) (shaped : ShapeLaws shape) (covering : CoverLaws cover) (setup : Setup) where
   -- A caller may store what its reclaimer allows in one of its own announcement words

@@ -129,9 +129,9 @@ module _ (shape : ShapeFacts) (cover : CoverFacts) (setup : Setup) (s : State (U
         → (v.own.guard.start_step ≤ length v.own.steps → g.start_step ≤ length (v.own.steps ++ t ∷ []))
         → HeldFits shape cover.places was.shapes u.taken_out g notes → KnownFits shape setup (shape_input was) u.updates g notes roots → ToldStart (start_of g) → cover.covered setup (with_guard (scheme_input was) c g)
         → Rule shape cover setup record { words = set s.words word (get_or s.words word 0); homes = s.homes; views = set s.views id (seeing v u.updates u.taken_out (book_after t g notes roots)) }
-    rule_after word t finds other g notes roots calm recent words started held known told covered = let f = u.seated id v at in let own : Book = book_after t g notes roots in
-        subst (λ (ws : List ℕ). Rule shape cover setup record { words = ws; homes = s.homes; views = set s.views id (seeing v u.updates u.taken_out own) }) (sym (set-get_or s.words word 0))
-        (stepped shape cover setup s u id v (seeing v u.updates u.taken_out own) at present s.words u.wide u.records u.taken_out u.updates (starts_itself u.taken_out) (starts_itself u.updates) record {
+    rule_after word t finds other g notes roots calm recent words started held known told covered = let f = u.seated id v at in let own : Book = record (book_after t g notes roots) { updates_seen = length u.updates } in
+        subst (λ (ws : List ℕ). Rule shape cover setup record { words = ws; homes = s.homes; views = set s.views id (seeing v u.updates u.taken_out (book_after t g notes roots)) }) (sym (set-get_or s.words word 0))
+        (stepped shape cover setup s u id v (seeing v u.updates u.taken_out (book_after t g notes roots)) at present s.words u.wide u.records u.taken_out u.updates (starts_itself u.taken_out) (starts_itself u.updates) record {
           setup = refl;
           present = present;
           others = refl;

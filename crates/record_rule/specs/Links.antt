@@ -80,9 +80,9 @@ node_step v kind o f found left = record { kind = kind; word = Field (index_of o
 abbrev pub with_step : Book → ℕ → Step → Book
 with_step b records t = record b { steps = b.steps ++ t ∷ []; drawing = drawing_after b.drawing records t }
 
--- the pass has seen the two whole lists
+-- the pass has seen the two whole lists, and its caller's book says how many updates there were
 abbrev pub seeing : View → List Update → List RefParts → Book → View
-seeing v updates taken_out own = record v { own = own; seen_updates = updates; seen_taken_out = taken_out }
+seeing v updates taken_out own = record v { own = record own { updates_seen = length updates }; seen_updates = updates; seen_taken_out = taken_out }
 
 -- what it had seen of them begins them, and that reaches to the start of its caller's guard and to where each record was reached that its caller knows something of
 pub record AreWhole (v : View) (updates : List Update) (taken_out : List RefParts) : Type 0 where
@@ -191,7 +191,7 @@ own_update v call = update_for v.own.caller (length v.own.answered + 1) call
 -- the pass after a step that leaves a link and may decide a call
 abbrev pub decided : View → List Update → List RefParts → Option Call → Book → View
 decided v updates taken_out call own = record v {
-  own = record own { answered = v.own.answered ++ entry_for (length updates) call };
+  own = record own { answered = v.own.answered ++ entry_for (length updates) call; updates_seen = length (with_update updates (own_update v call)) };
   front = front_for v.front (with_update updates (own_update v call)) call;
   seen_updates = with_update updates (own_update v call);
   seen_taken_out = taken_out;
