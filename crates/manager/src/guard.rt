@@ -73,7 +73,7 @@ impl<'a, S: Shape, R: Scheme, A: Allocator, P: Pool> Guard<'a, S, R, A, P> {
         ensures keeps { KeepsElse place self.old.caller.now.pass self.new.caller.now.pass }
         ensures answers { AnswersNone (view self.old.caller.now.pass) (view self.new.caller.now.pass) }
         ensures owns { KeepsOwn (view self.old.caller.now.pass) (view self.new.caller.now.pass) }
-        ensures did { Did self.old (hopped place from field result) self.new }
+        ensures did { Did self.old (hopped place from field result (view self.new.caller.now.pass).own.updates_seen) self.new }
     {
         reach(&self.manager.table, self.caller, place, from, field)
     }
@@ -173,7 +173,7 @@ impl<'a, S: Shape, R: Scheme, A: Allocator, P: Pool> Guard<'a, S, R, A, P> {
         ensures answers { AnswersNone (view self.old.caller.now.pass) (view self.new.caller.now.pass) }
         ensures owns { KeepsOwn (view self.old.caller.now.pass) (view self.new.caller.now.pass) }
         ensures step { (n : ℕ) × (result ≡ link_in n) × LoadedLink S.facts R.facts (view self.old.caller.now.pass) (origin node) 3 (is_first self.old.caller.now.pass) n (view self.new.caller.now.pass) }
-        ensures did { Did self.old (looked node 3 result) self.new }
+        ensures did { Did self.old (looked node 3 result (view self.new.caller.now.pass).own.updates_seen) self.new }
     {
         load_link(&self.manager.table, self.caller, node, field)
     }
@@ -289,20 +289,21 @@ impl<'a, S: Shape, R: Scheme, A: Allocator, P: Pool> Guard<'a, S, R, A, P> {
     }
 
     /// Places a read, as of a search or of a refused insertion: from this one load on it stands in the one
-    /// history with its call and its reply, behind some number of the updates that were noted, no less than
-    /// when the reclaimer's guard started, at which the sequential set answers so. The guard has started
-    /// with a load of this operation.
+    /// history with its call and its reply, behind just so many of the updates that were noted as `position`
+    /// says, which the author's proof chooses. That number is no less than when the reclaimer's guard
+    /// started, and the sequential set answers so there. The guard has started with a load of this operation.
     pub fn place(&mut self, call: Call, reply: bool)
+        ghost position: { ℕ }
         requires at_work { IsAtWork self.old }
         requires started { HasStarted self.old.caller.now.pass }
-        requires allowed { (position : ℕ) × MayPlaceIn S.facts (view self.old.caller.now.pass) position call reply }
+        requires allowed { MayPlaceIn S.facts (view self.old.caller.now.pass) position call reply }
         ensures same_reference { (self.new.caller.ghost_name ≡ self.old.caller.ghost_name) × (self.new.manager.now ≡ self.old.manager.now) }
         ensures at_work { IsAtWork self.new }
         ensures pass { IsSamePass self.old.caller.now.pass self.new.caller.now.pass }
         ensures keeps { KeepsHeld self.old.caller.now.pass self.new.caller.now.pass }
         ensures owns { KeepsOwn (view self.old.caller.now.pass) (view self.new.caller.now.pass) }
-        ensures step { (position : ℕ) × (found : ℕ) × MayPlaceIn S.facts (view self.old.caller.now.pass) position call reply × (view self.new.caller.now.pass ≡ placed_view (view self.old.caller.now.pass) 0 found position call reply) }
-        ensures did { Did self.old (placed call reply) self.new }
+        ensures step { (found : ℕ) × (view self.new.caller.now.pass ≡ placed_view (view self.old.caller.now.pass) 0 found position call reply) }
+        ensures did { Did self.old (placed call reply position) self.new }
     {
         place(&self.manager.table, self.caller, call, reply);
     }

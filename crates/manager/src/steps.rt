@@ -157,17 +157,18 @@ pub(crate) fn place<S: Shape, R: Scheme>(
     call: Call,
     reply: bool,
 )
+    ghost position: { ℕ }
     requires of { IsPassOf table.now caller.old.pass }
     requires caller { IsWorking R.is_local caller.old }
     requires started { HasStarted caller.old.pass }
-    requires allowed { (position : ℕ) × MayPlaceIn S.facts (view caller.old.pass) position call reply }
+    requires allowed { MayPlaceIn S.facts (view caller.old.pass) position call reply }
     ensures of { IsPassOf table.now caller.new.pass }
     ensures caller { IsWorking R.is_local caller.new }
     ensures pass { IsSamePass caller.old.pass caller.new.pass }
     ensures keeps { KeepsHeld caller.old.pass caller.new.pass }
     ensures owns { KeepsOwn (view caller.old.pass) (view caller.new.pass) }
     ensures stock { KeepsStock (view caller.old.pass).own (view caller.new.pass).own }
-    ensures placed { (position : ℕ) × (found : ℕ) × MayPlaceIn S.facts (view caller.old.pass) position call reply × (view caller.new.pass ≡ placed_view (view caller.old.pass) 0 found position call reply) }
+    ensures placed { (found : ℕ) × (view caller.new.pass ≡ placed_view (view caller.old.pass) 0 found position call reply) }
 {
     set_history::place(table, &mut caller.pass, call, reply);
 }

@@ -19,7 +19,7 @@ use Rattle.record_table.specs.Handles.{view, since}
 use Rattle.record_table.specs.Nodes.{HasStarted, is_first}
 use Rattle.record_table.proofs.Started.{later_load}
 use Rattle.reclaim_api.specs.Holds.{IsElsewhere, KeepsSome, KeepsHeld, KeepsButLink}
-use Rattle.reclaim_api.proofs.Noting.{noting_keeps, noting_long}
+use Rattle.reclaim_api.proofs.Noting.{noting_keeps, noting_long, noting_reached}
 
 -- a guard that started holds this much still
 pub record GoesOnAt (places : ℕ → Type 0) (g h : Guard) : Type 0 where
@@ -41,6 +41,7 @@ module _ {S R : Type 0} where
     holds = λ h here there. k.holds h (fewer h.place here) there;
     notes = λ place f n here at. k.notes place f n (less place f here) at;
     long = λ place here. k.long place (fewer place here);
+    reached = λ place here. k.reached place (fewer place here);
     noted = k.noted;
     goes_on = k.goes_on;
   }
@@ -51,6 +52,7 @@ module _ {S R : Type 0} where
     holds = λ h here there. there;
     notes = λ place f n here at. at;
     long = λ place here. refl;
+    reached = λ place here. refl;
     noted = starts_itself (view p).seen_updates;
     goes_on = λ h. (h, refl);
   }
@@ -61,6 +63,7 @@ module _ {S R : Type 0} where
     holds = λ h here there. b.holds h here (a.holds h here there);
     notes = λ place f n here at. b.notes place f n here (a.notes place f n here at);
     long = λ place here. b.long place here ∙ a.long place here;
+    reached = λ place here. b.reached place here ∙ a.reached place here;
     noted = starts_then (view p).seen_updates (view q).seen_updates (view r).seen_updates a.noted b.noted;
     goes_on = λ h. (let x = a.goes_on h in let y = b.goes_on x.0 in (y.0, y.1 ∙ x.1));
   }
@@ -76,8 +79,9 @@ module _ {S R : Type 0} where
     pub keeps_by : (places : ℕ → Type 0) (words : ℕ → ℕ → Type 0) → (view q).setup ≡ (view p).setup → (HasStarted p → GoesOnAt places (view p).own.guard (view q).own.guard)
         → ((place f n : ℕ) → words place f → At (note_in (view p).own.notes place).words f (Some n) → At (note_in (view q).own.notes place).words f (Some n))
         → ((place : ℕ) → places place → length (note_in (view q).own.notes place).words ≡ length (note_in (view p).own.notes place).words)
+        → ((place : ℕ) → places place → (note_in (view q).own.notes place).reached_at ≡ (note_in (view p).own.notes place).reached_at)
         → StartsWith (view q).seen_updates (view p).seen_updates → KeepsSome places words p q
-    keeps_by places words setup guard notes long noted = record {
+    keeps_by places words setup guard notes long reached noted = record {
       holds = λ h here there. record {
         started = started_still (guard there.started).step there.started;
         within = subst (λ (x : Setup). h.target.index ≤ x.records) (sym setup) there.within;
@@ -85,6 +89,7 @@ module _ {S R : Type 0} where
       };
       notes = notes;
       long = long;
+      reached = reached;
       noted = noted;
       goes_on = λ h. (started_still (guard h).step h, (guard h).updates);
     }
@@ -93,7 +98,7 @@ module _ {S R : Type 0} where
     pub keeps_held : (view q).setup ≡ (view p).setup → (view q).own.guard ≡ (view p).own.guard → (view q).own.notes ≡ (view p).own.notes → StartsWith (view q).seen_updates (view p).seen_updates → KeepsHeld p q
     keeps_held setup guard notes noted = keeps_by (λ place. Unit {0}) (λ place f. Unit {0}) setup (λ h. same_at (λ place. Unit {0}) (view p).own.guard (view q).own.guard guard)
         (λ place f n here at. subst (λ (l : List Note). At (note_in l place).words f (Some n)) (sym notes) at)
-        (λ place here. ap (λ (l : List Note). length (note_in l place).words) notes) noted
+        (λ place here. ap (λ (l : List Note). length (note_in l place).words) notes) (λ place here. ap (λ (l : List Note). (note_in l place).reached_at) notes) noted
 
     -- as after steps that leave the guard, the notes and the sight of the updates
     pub keeps_same : (view q).setup ≡ (view p).setup → (view q).own.guard ≡ (view p).own.guard → (view q).own.notes ≡ (view p).own.notes → (view q).seen_updates ≡ (view p).seen_updates → KeepsHeld p q
@@ -106,6 +111,7 @@ module _ {S R : Type 0} where
           (λ h. same_at (λ place. Unit {0}) (view p).own.guard (view q).own.guard (guard h))
           (λ place f m here at. subst (λ (l : List Note). At (note_in l place).words f (Some m)) (sym notes) (noting_keeps settled (view p).own.notes o n place f m (λ z at_place. was_known o refl place m at_place (subst (λ k. At (note_in (view p).own.notes place).words k (Some m)) z at)) at))
           (λ place here. ap (λ (l : List Note). length (note_in l place).words) notes ∙ noting_long settled (view p).own.notes o n place)
+          (λ place here. ap (λ (l : List Note). (note_in l place).reached_at) notes ∙ noting_reached settled (view p).own.notes o n place)
           told.whole.seen_updates
         where
           settled : Bool
@@ -140,6 +146,7 @@ module _ {S R : Type 0} where
           (λ h. same_at (λ place. Unit {0}) (view p).own.guard (view q).own.guard guard)
           (λ place f m here at. subst (λ (l : List Note). At (note_in l place).words f (Some m)) (sym notes) (noting_keeps b (view p).own.notes o n place f m (λ z at_place. ⊎_elim (λ ne. absurd (ne z)) (λ else. absurd (at_place else)) here) at))
           (λ place here. ap (λ (l : List Note). length (note_in l place).words) notes ∙ noting_long b (view p).own.notes o n place)
+          (λ place here. ap (λ (l : List Note). (note_in l place).reached_at) notes ∙ noting_reached b (view p).own.notes o n place)
           noted
 
       -- an update that took effect is seen

@@ -39,6 +39,12 @@ noting_long false notes o n place = refl
 noting_long true notes (from_root k) n place = refl
 noting_long true notes (from_place p r) n place = got_set_any (λ (x : Note). length x.words ≡ length (note_in notes place).words) notes p place (note_word (note_in notes p) 3 n) no_note refl (λ e. length-set (note_in notes p).words 0 (Some n) ∙ ap (λ k. length (note_in notes k).words) (sym e))
 
+-- and was reached when it was
+pub noting_reached : (b : Bool) (notes : List Note) (o : Origin) (n place : ℕ) → (note_in (noting b notes o 3 n) place).reached_at ≡ (note_in notes place).reached_at
+noting_reached false notes o n place = refl
+noting_reached true notes (from_root k) n place = refl
+noting_reached true notes (from_place p r) n place = got_set_any (λ (x : Note). x.reached_at ≡ (note_in notes place).reached_at) notes p place (note_word (note_in notes p) 3 n) no_note refl (λ e. ap (λ k. (note_in notes k).reached_at) (sym e))
+
 -- a place of which a word is known has a note
 noted_place : (notes : List Note) (p f m : ℕ) → At (note_in notes p).words f (Some m) → p < length notes
 noted_place [] p f m at = let none : None ≡ Some m = (at_replicate 5 f None (Some m) at).1 in let bad : ⊥ = cc in absurd bad

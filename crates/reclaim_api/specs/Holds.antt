@@ -26,6 +26,8 @@ module _ {S R : Type 0} where
     pub notes : (place f n : ℕ) → words place f → At (note_in (view p).own.notes place).words f (Some n) → At (note_in (view q).own.notes place).words f (Some n)
     -- a note has as many words as before
     pub long : (place : ℕ) → places place → length (note_in (view q).own.notes place).words ≡ length (note_in (view p).own.notes place).words
+    -- and was reached when it was
+    pub reached : (place : ℕ) → places place → (note_in (view q).own.notes place).reached_at ≡ (note_in (view p).own.notes place).reached_at
     -- what it has seen of the updates begins what it has seen now
     pub noted : StartsWith (view q).seen_updates (view p).seen_updates
     -- a guard that started goes on
@@ -60,6 +62,7 @@ module _ {S R : Type 0} where
     pub saw : Saw s at_load o 3 word target updates
     -- so many updates had taken effect, and the pass noted them
     pub noted : StartsWith (view q).seen_updates updates
+    pub seen : (view q).own.updates_seen ≡ length updates
     pub note : note_in (view q).own.notes place ≡ note_of s target (length updates)
     -- the guard has started, no later than with this load
     pub started : HasStarted q

@@ -74,6 +74,7 @@ module _ (s : ShapeFacts) {S R : Type 0} (p q : Pass S R) (o : Origin) (place n 
     near = refl;
     saw = told.saw;
     noted = starts_itself (view q).seen_updates;
+    seen = ap (λ (v : View). v.own.updates_seen) told.view;
     note = ap (λ (l : List Note). note_in l place) notes_are ∙ get_or-set_same (view p).own.notes place (note_of s told.target (length (view q).seen_updates)) no_note (let m = told.noted in omega arith);
     started = has_started later;
     since_start = start_seen;
@@ -99,6 +100,7 @@ module _ (s : ShapeFacts) {S R : Type 0} (p q : Pass S R) (o : Origin) (place n 
   keeps_else = keeps_by p q same (λ other. other ≢ place) (λ other f. other ≢ place) (ap (λ (v : View). v.setup) told.view) (λ h. goes_on h)
       (λ other f m ne at. subst (λ (l : List Note). At (note_in l other).words f (Some m)) (sym notes_are) (subst (λ (x : Note). At x.words f (Some m)) (sym (note_else other ne)) at))
       (λ other ne. ap (λ (l : List Note). length (note_in l other).words) notes_are ∙ ap (λ (x : Note). length x.words) (note_else other ne))
+      (λ other ne. ap (λ (l : List Note). (note_in l other).reached_at) notes_are ∙ ap (λ (x : Note). x.reached_at) (note_else other ne))
       told.whole.seen_updates
     where
       note_else : (other : ℕ) → other ≢ place → note_in (set (view p).own.notes place (note_of s told.target (length (view q).seen_updates))) other ≡ note_in (view p).own.notes other

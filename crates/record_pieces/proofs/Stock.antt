@@ -25,9 +25,9 @@ use Rattle.record_pieces.specs.Trails.{Trail}
 -- an event that gets no record and gives none back
 abbrev pub Keeps : Event → Type 0
 Keeps begun = Unit {0}
-Keeps (hopped place at f h) = Unit {0}
+Keeps (hopped place at f h seen) = Unit {0}
 Keeps (keyed r key) = Unit {0}
-Keeps (looked at f link) = Unit {0}
+Keeps (looked at f link seen) = Unit {0}
 Keeps (exchanged at f expected new call refusal) = Unit {0}
 Keeps (published at f expected own call refusal) = Unit {0}
 Keeps (unlinked at f gone new refusal) = Unit {0}
@@ -36,7 +36,7 @@ Keeps (refused n) = Unit {0}
 Keeps (stored_own r f payload) = Unit {0}
 Keeps (gave_back r) = ⊥
 Keeps (retired r) = Unit {0}
-Keeps (placed call reply) = Unit {0}
+Keeps (placed call reply position) = Unit {0}
 Keeps ended = Unit {0}
 
 abbrev pub AllKeep : List Event → Type 0
@@ -97,9 +97,9 @@ hands_add r birth b c h =
 module _ (m : Manner) (k : Setup) where
   pub keeps_one : (e : Event) (b c : Book) → Keeps e → Does m k e b c → KeepsStock b c
   keeps_one begun b c keeps d = d.1
-  keeps_one (hopped place at f h) b c keeps d = d.1
+  keeps_one (hopped place at f h seen) b c keeps d = d.2
   keeps_one (keyed r key) b c keeps d = d.1
-  keeps_one (looked at f link) b c keeps d = d.1
+  keeps_one (looked at f link seen) b c keeps d = d.2
   keeps_one (exchanged at f expected new call refusal) b c keeps d = d.1
   keeps_one (published at f expected own call refusal) b c keeps d = d.1
   keeps_one (unlinked at f gone new refusal) b c keeps d = d.1
@@ -108,7 +108,7 @@ module _ (m : Manner) (k : Setup) where
   keeps_one (stored_own r f payload) b c keeps d = d.1
   keeps_one (gave_back r) b c keeps d = absurd keeps
   keeps_one (retired r) b c keeps d = d.1
-  keeps_one (placed call reply) b c keeps d = d.1
+  keeps_one (placed call reply position) b c keeps d = d.2
   keeps_one ended b c keeps d = d.1
 
   -- so a trail of such events leaves the stock as it was
@@ -133,9 +133,9 @@ module _ (m : Manner) (k : Setup) where
 
     adds_one : (e : Event) (b c : Book) → Does m k e b c → AddsSteps b c
     adds_one begun b c d = only.enters b c d.0.0 d.0.1
-    adds_one (hopped place at f h) b c d = only.reaches b c place at f h d.0
+    adds_one (hopped place at f h seen) b c d = only.reaches b c place at f h d.0
     adds_one (keyed r key) b c d = one_adds b c _ d.0.2
-    adds_one (looked at f link) b c d = one_adds b c _ d.0.2
+    adds_one (looked at f link seen) b c d = one_adds b c _ d.0.2
     adds_one (exchanged at f expected new call refusal) b c d = exchange_adds k at f expected new refusal b c d.0
     adds_one (published at f expected own call refusal) b c d = exchange_adds k at f expected _ refusal b c d.0
     adds_one (unlinked at f gone new refusal) b c d = exchange_adds k at f _ new refusal b c d.0
@@ -144,7 +144,7 @@ module _ (m : Manner) (k : Setup) where
     adds_one (stored_own r f payload) b c d = one_adds b c _ d.0.1
     adds_one (gave_back r) b c d = one_adds b c _ d.0.2
     adds_one (retired r) b c d = only.puts_away b c r d.0.0 d.0.1
-    adds_one (placed call reply) b c d = one_adds b c _ d.0.1
+    adds_one (placed call reply position) b c d = one_adds b c _ d.0.1
     adds_one ended b c d = only.leaves b c d.0
 
     pub adds_all : (es : List Event) (b c : Book) → Trail m k es b c → AddsSteps b c

@@ -16,7 +16,7 @@ use Rattle.row_words.specs.declared.links.Freed.{Freed}
 use Rattle.record_rule.specs.Facts.{clean}
 use Rattle.record_rule.specs.Kinds.{idle}
 use Rattle.record_rule.specs.HandingOut.{handed_out}
-use Rattle.record_rule.specs.Links.{index_of, held_at, link_word}
+use Rattle.record_rule.specs.Links.{index_of, held_at, link_word, read_at}
 use Rattle.record_rule.specs.Standings.{is_free, is_spare}
 use Rattle.record_table.specs.declared.nodes.Node.{Node}
 use Rattle.record_table.specs.Nodes.{origin}
@@ -26,12 +26,12 @@ use Rattle.record_pieces.specs.Manners.{Manner}
 
 pub data Event : Type 0 where
   begun : Event
-  -- a try to hold: for which place, from which node and word, and its answer
-  hopped : ℕ → Node → ℕ → Holding → Event
+  -- a try to hold: for which place, from which node and word, its answer, and how many updates had taken effect at its last load of the link
+  hopped : ℕ → Node → ℕ → Holding → ℕ → Event
   -- the key of a held record
   keyed : RefParts → ℕ → Event
-  -- the link in a node's word
-  looked : Node → ℕ → LinkParts → Event
+  -- the link in a node's word, and how many updates had taken effect at its load
+  looked : Node → ℕ → LinkParts → ℕ → Event
   -- an exchange of a node's link: what was expected, the new one, the call that it decides, and what a refusal found
   exchanged : Node → ℕ → LinkParts → LinkParts → Option Call → Option LinkParts → Event
   -- the same to link an own record
@@ -45,8 +45,8 @@ pub data Event : Type 0 where
   stored_own : RefParts → ℕ → ℕ → Event
   gave_back : RefParts → Event
   retired : RefParts → Event
-  -- a read was placed
-  placed : Call → Bool → Event
+  -- a read was placed, behind so many updates
+  placed : Call → Bool → ℕ → Event
   ended : Event
 
 -- one step more
@@ -116,9 +116,9 @@ module _ (m : Manner) (k : Setup) where
   -- the steps of an event, and what it leaves of the caller's stock
   abbrev pub Does : Event → Book → Book → Type 0
   Does begun b c = ((f : Freed) × m.enters k b f c) × KeepsStock b c
-  Does (hopped p at f h) b c = m.reaches k p at f b h c × KeepsStock b c
+  Does (hopped p at f h seen) b c = m.reaches k p at f b h c × (c.updates_seen ≡ seen) × KeepsStock b c
   Does (keyed r key) b c = ((n : ℕ) × (key ≡ key_in n) × OneStep b (key_load b r n) c) × KeepsStock b c
-  Does (looked at f link) b c = ((n : ℕ) × (link ≡ link_in n) × OneStep b (node_step b Load at f n n) c) × KeepsStock b c
+  Does (looked at f link seen) b c = ((n : ℕ) × (link ≡ link_in n) × OneStep b (node_step b Load at f n n) c) × (c.updates_seen ≡ seen) × KeepsStock b c
   Does (exchanged at f expected new call refusal) b c = Exchanges k at f expected new refusal b c × KeepsStock b c
   Does (published at f expected own call refusal) b c = Exchanges k at f expected (clean own) refusal b c × KeepsStock b c
   Does (unlinked at f gone new refusal) b c = Exchanges k at f (clean gone) new refusal b c × KeepsStock b c
@@ -127,5 +127,5 @@ module _ (m : Manner) (k : Setup) where
   Does (stored_own r f payload) b c = ((found : ℕ) × OneStep b (own_store b r f found (packed_number r.generation payload)) c) × KeepsStock b c
   Does (gave_back r) b c = ((found : ℕ) × (left : ℕ) × OneStep b (own_store b r 1 found left) c) × (had is_spare c ≡ had is_spare b + 1) × (c.moves.drawn ≡ b.moves.drawn)
   Does (retired r) b c = ((f : Freed) × m.puts_away k b r f c) × KeepsStock b c
-  Does (placed call reply) b c = ((n : ℕ) × OneStep b (placing_load b n) c) × KeepsStock b c
+  Does (placed call reply position) b c = ((n : ℕ) × OneStep b (placing_load b n) c) × (c.answered ≡ b.answered ++ read_at position call reply ∷ []) × KeepsStock b c
   Does ended b c = m.leaves k b c × KeepsStock b c
