@@ -45,15 +45,15 @@ behind_all ds fs gs hs = append_assoc (ds ++ fs) gs hs ∙ append_assoc ds fs (g
 
 -- what comes of a try, behind the tries before it
 module _ (root key budget before after made : ℕ) (sum : after ≡ before + made) where
-  pub no_hops_left : (hand : Option RefParts) (ds fs : List Event) → after ≡ budget → Insertings root key before hand ds → Finds key root made None fs → Inserts root key budget (Again after) (ds ++ (fs ++ back hand))
+  pub no_hops_left : (hand : Option RefParts) (ds fs : List Event) → after ≡ budget → Insertings root key before hand ds → Finds key root made None None fs → Inserts root key budget (Again after) (ds ++ (fs ++ back hand))
   no_hops_left hand ds fs full tries finds = subst (λ (z : ℕ × List Event). Inserts root key budget (Again z.0) z.1) (λ k. (sym full k, append_assoc ds fs (back hand) k)) (again tries finds (sym sum ∙ full))
 
-  pub key_was_there : (hand : Option RefParts) (node : Node) (at : Held) (link : LinkParts) (ds fs : List Event) → after ≤ budget → Insertings root key before hand ds → Finds key root made (Some (Present node at link)) fs
-      → Inserts root key budget (Done false) (ds ++ (fs ++ (back hand ++ placed (Insert key) false ∷ [])))
-  key_was_there hand node at link ds fs within tries finds =
-      subst (Inserts root key budget (Done false)) (behind_all ds fs (back hand) (placed (Insert key) false ∷ [])) (has_it tries finds (let e = sum in let w = within in omega arith))
+  pub key_was_there : (hand : Option RefParts) (node : Node) (at : Held) (link : LinkParts) (ds fs : List Event) (shown : ℕ) → after ≤ budget → Insertings root key before hand ds → Finds key root made (Some (Present node at link)) (Some shown) fs
+      → Inserts root key budget (Done false) (ds ++ (fs ++ (back hand ++ placed (Insert key) false shown ∷ [])))
+  key_was_there hand node at link ds fs shown within tries finds =
+      subst (Inserts root key budget (Done false)) (behind_all ds fs (back hand) (placed (Insert key) false shown ∷ [])) (has_it tries finds (let e = sum in let w = within in omega arith))
 
-  module _ (hand : Option RefParts) (node : Node) (next : Option Held) (ds fs : List Event) (within : after ≤ budget) (tries : Insertings root key before hand ds) (finds : Finds key root made (Some (Absent node next)) fs) where
+  module _ (hand : Option RefParts) (node : Node) (next : Option Held) (ds fs : List Event) (shown : ℕ) (within : after ≤ budget) (tries : Insertings root key before hand ds) (finds : Finds key root made (Some (Absent node next)) (Some shown) fs) where
     pub none_was_left : (found : ℕ) → hand ≡ None → Inserts root key budget (Full found) (ds ++ (fs ++ refused found ∷ []))
     none_was_left found is =
         subst (Inserts root key budget (Full found)) (append_assoc ds fs (refused found ∷ [])) (is_full (subst (λ (h : Option RefParts). Insertings root key before h ds) is tries) finds (let e = sum in let w = within in omega arith))

@@ -64,7 +64,7 @@ module _ {S R : Type 0} (c : CoverFacts) (p q : Pass S R) (root : ℕ) (at : Hel
       )
 
   -- where it has none, the record's key was in the set
-  pub present_there : (key : ℕ) → ¬ HasMark link → (view q).setup ≡ (view p).setup → AnswersNone (view p) (view q) → KeepsHeld p q → HasStarted p → rank p (At at) ≡ key + 1 → HasSeenKey q key true
+  pub present_there : (key : ℕ) → ¬ HasMark link → (view q).setup ≡ (view p).setup → AnswersNone (view p) (view q) → KeepsHeld p q → HasStarted p → rank p (At at) ≡ key + 1 → HasSeenKey q key true (view q).own.updates_seen
   present_there key clear setup none keeps started rank_is = seen_by_load p q setup none key true michael of_michael (from_place at.place at.target) c first n told keeps started
       (ap (λ k. contains (keys_of (view q).seen_updates) k) same_key ∙ told.saw.shown.present (λ e. clear (sym (ap mark_bit is_link) ∙ e)) refl)
     where

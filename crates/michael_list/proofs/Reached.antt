@@ -65,12 +65,12 @@ module _ {S R : Type 0} (p q : Pass S R) (place root key : ℕ) (before : Node) 
   found_there = subst (λ (to : Option RefParts). IsTargetSeen to seen.target) (ap (λ (l : LinkParts). l.target) (sym link_is)) (target_seen link.target seen.target (subst (λ (to : Option RefParts). IsFound to seen.target) leads_to seen.found))
 
   -- so where the target, if there is one, has a greater key, the key was absent
-  pub absent_between : MatchOption (rank_of seen.target) (Unit {0}) (λ r. key + 1 < r) → HasSeenKey q key false
+  pub absent_between : MatchOption (rank_of seen.target) (Unit {0}) (λ r. key + 1 < r) → HasSeenKey q key false (view q).own.updates_seen
   absent_between high = seen_by_hold p q same_setup none key false michael of_michael (origin before) place link seen
       (seen.saw.shown.between unmarked refl found_there key (ap (λ (k : Setup). key % k.roots) seen.setup ∙ home ∙ sym home_is) (let low = at.below in let e = rank_is in omega arith) high)
 
   -- where there is none, it was
-  pub absent_at_end : link.target ≡ None → HasSeenKey q key false
+  pub absent_at_end : link.target ≡ None → HasSeenKey q key false (view q).own.updates_seen
   absent_at_end ends = absent_between (subst (λ (b : Option (List ℕ)). MatchOption (rank_of b) (Unit {0}) (λ r. key + 1 < r)) (sym (nothing link.target seen.target ends (subst (λ (to : Option RefParts). IsFound to seen.target) leads_to seen.found))) tt)
     where
       nothing : (to : Option RefParts) (body : Option (List ℕ)) → to ≡ None → IsFound to body → body ≡ None
@@ -119,13 +119,14 @@ module _ {S R : Type 0} (p q : Pass S R) (place root key : ℕ) (before : Node) 
     }
 
     -- the next record of the list is reached
-    pub reaches_next : IsElsewhere (origin before) place → KeepsElse place p q → HasReachedNext q root key before held
+    pub reaches_next : IsElsewhere (origin before) place → KeepsElse place p q → HasReachedNext q root key before held (view q).own.updates_seen
     reaches_next else keeps =
         let still = stands_else else keeps in
         record {
           before_it = before_still else keeps;
           else = subst (IsElsewhere (origin before)) (sym placed) else;
           stands = stands_there;
+          reached_at = ap (λ (x : Note). x.reached_at) note_is ∙ sym seen.seen;
           rises = let e = still.1 in let r = rank_is in let b = behind.1 in let k = key_is in omega arith;
           gap = λ above. absent_between (subst (λ (b : Option (List ℕ)). MatchOption (rank_of b) (Unit {0}) (λ r. key + 1 < r)) (sym body_found.1) (let k = key_is in omega (arith, above)));
         }

@@ -64,16 +64,17 @@ module _ {S R : Type 0} (p q : Pass S R) (setup : (view q).setup ≡ (view p).se
     pub before_held : (key : ℕ) (node : Node) → StandsBefore p root key node → StandsBefore q root key node
     before_held key node h = let s = stands_held node h.stands in record { stands = s.0; below = let e = s.1 in let b = h.below in omega arith }
 
-    pub seen_held : AnswersNone (view p) (view q) → (key : ℕ) (b : Bool) → HasSeenKey p key b → HasSeenKey q key b
+    pub seen_held : AnswersNone (view p) (view q) → (key : ℕ) (b : Bool) {position : ℕ} → HasSeenKey p key b position → HasSeenKey q key b position
     seen_held none key b h = seen_still p q setup none key b (λ place. Unit {0}) (λ place f. Unit {0}) keeps h
 
     -- what was reached is the next record still
-    pub reached_still : AnswersNone (view p) (view q) → (key : ℕ) (before : Node) (at : Held) → HasReachedNext p root key before at → HasReachedNext q root key before at
+    pub reached_still : AnswersNone (view p) (view q) → (key : ℕ) (before : Node) (at : Held) {seen : ℕ} → HasReachedNext p root key before at seen → HasReachedNext q root key before at seen
     reached_still none key before at h = let a = stands_held before h.before_it.stands in let b = stands_held (At at) h.stands in record {
       before_it = before_held key before h.before_it;
       else = h.else;
       stands = b.0;
       rises = let e = a.1 in let f = b.1 in let r = h.rises in omega arith;
+      reached_at = keeps.reached at.place tt ∙ h.reached_at;
       gap = λ above. seen_held none key false (h.gap (let f = b.1 in omega (arith, above)));
     }
 

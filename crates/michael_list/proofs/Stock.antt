@@ -24,27 +24,27 @@ out_keep : (before : Node) (gone : Held) (link : LinkParts) (b : Bool) (es : Lis
 out_keep before gone link b _ takes_out = (tt, (tt, tt))
 out_keep before gone link b _ (is_refused other) = (tt, tt)
 
-looks_keep : (key : ℕ) (from : Node) (at : Held) (landing : Landing) (es : List Event) → Looks key from at landing es → AllKeep es
-looks_keep key from at landing _ (passes n link clean less) = (tt, (tt, tt))
-looks_keep key from at landing _ (finds n link clean same) = (tt, (tt, tt))
-looks_keep key from at landing _ (misses n link clean more) = (tt, (tt, tt))
-looks_keep key from at landing _ (clears n link {fs = fs} marked out) = (tt, (tt, out_keep from at _ true fs out))
-looks_keep key from at landing _ (is_late n link {fs = fs} marked out) = (tt, (tt, out_keep from at _ false fs out))
+looks_keep : (key : ℕ) (from : Node) (at : Held) (seen : ℕ) (landing : Landing) (shown : Option ℕ) (es : List Event) → Looks key from at seen landing shown es → AllKeep es
+looks_keep key from at seen landing shown _ (passes n link then clean less) = (tt, (tt, tt))
+looks_keep key from at seen landing shown _ (finds n link then clean same) = (tt, (tt, tt))
+looks_keep key from at seen landing shown _ (misses n link then clean more) = (tt, (tt, tt))
+looks_keep key from at seen landing shown _ (clears n link then {fs = fs} marked out) = (tt, (tt, out_keep from at _ true fs out))
+looks_keep key from at seen landing shown _ (is_late n link then {fs = fs} marked out) = (tt, (tt, out_keep from at _ false fs out))
 
-hops_keep : (key : ℕ) (from : Node) (landing : Landing) (es : List Event) → Hops key from landing es → AllKeep es
-hops_keep key from landing _ (ends place) = (tt, tt)
-hops_keep key from landing _ (meets_mark place link) = (tt, tt)
-hops_keep key from landing _ (moves place n) = (tt, tt)
-hops_keep key from landing _ (reaches place at {landing = l} {fs = fs} looks) = (tt, looks_keep key from at l fs looks)
+hops_keep : (key : ℕ) (from : Node) (landing : Landing) (shown : Option ℕ) (es : List Event) → Hops key from landing shown es → AllKeep es
+hops_keep key from landing shown _ (ends place seen) = (tt, tt)
+hops_keep key from landing shown _ (meets_mark place link seen) = (tt, tt)
+hops_keep key from landing shown _ (moves place n seen) = (tt, tt)
+hops_keep key from landing shown _ (reaches place at seen {landing = l} {shown = s} {fs = fs} looks) = (tt, looks_keep key from at seen l s fs looks)
 
 walks_keep : {key root hops rank : ℕ} {from : Node} {es : List Event} → Walks key root hops from rank es → AllKeep es
 walks_keep starts = tt
-walks_keep {key} (goes_on {from = from} {es = es} {fs = fs} walk hop rises) = both_keep es fs (walks_keep walk) (hops_keep key from _ fs hop)
-walks_keep {key} (stays {from = from} {es = es} {fs = fs} walk hop) = both_keep es fs (walks_keep walk) (hops_keep key from _ fs hop)
-walks_keep {key} (restarts {from = from} {es = es} {fs = fs} walk hop) = both_keep es fs (walks_keep walk) (hops_keep key from _ fs hop)
+walks_keep {key} (goes_on {from = from} {es = es} {fs = fs} walk hop rises) = both_keep es fs (walks_keep walk) (hops_keep key from _ _ fs hop)
+walks_keep {key} (stays {from = from} {es = es} {fs = fs} walk hop) = both_keep es fs (walks_keep walk) (hops_keep key from _ _ fs hop)
+walks_keep {key} (restarts {from = from} {es = es} {fs = fs} walk hop) = both_keep es fs (walks_keep walk) (hops_keep key from _ _ fs hop)
 
-finds_keep : {key root hops : ℕ} {spot : Option Spot} {es : List Event} → Finds key root hops spot es → AllKeep es
-finds_keep {key} (found {from = from} {es = es} {fs = fs} walk hop) = both_keep es fs (walks_keep walk) (hops_keep key from _ fs hop)
+finds_keep : {key root hops : ℕ} {spot : Option Spot} {shown : Option ℕ} {es : List Event} → Finds key root hops spot shown es → AllKeep es
+finds_keep {key} (found {from = from} {es = es} {fs = fs} walk hop) = both_keep es fs (walks_keep walk) (hops_keep key from _ _ fs hop)
 finds_keep (needs_more walk) = walks_keep walk
 
 removings_keep : {root key hops : ℕ} {es : List Event} → Removings root key hops es → AllKeep es
@@ -157,7 +157,7 @@ module _ (m : Manner) (k : Setup) where
       took_then (record_taken own hand gs b q.0 p.0 record_got taken q.2) (keeps_all m k (links key before next own (Some other)) p.0 c (tt, (tt, (tt, tt))) p.2)
 
   -- after tries that failed, and a walk
-  tried_taken : {root key before_it hops : ℕ} {hand : Option RefParts} {spot : Option Spot} {es fs : List Event} (b c : Book) → Insertings root key before_it hand es → Finds key root hops spot fs → Trail m k (es ++ fs) b c → HasTaken hand b c
+  tried_taken : {root key before_it hops : ℕ} {hand : Option RefParts} {spot : Option Spot} {shown : Option ℕ} {es fs : List Event} (b c : Book) → Insertings root key before_it hand es → Finds key root hops spot shown fs → Trail m k (es ++ fs) b c → HasTaken hand b c
   tried_taken {hand = hand} {es = es} {fs = fs} b c tries walk t =
       let p = parts m k es fs b c t in taken_then hand b p.0 c (insertings_take b p.0 tries p.1) (keeps_all m k fs p.0 c (finds_keep walk) p.2)
 
@@ -177,10 +177,10 @@ module _ (m : Manner) (k : Setup) where
       let p = parts m k (es ++ fs ++ gs) (links key before next own None) b c t in
       let q = parts m k (es ++ fs) gs b p.0 p.1 in
       took_drew (took_then (record_taken own hand gs b q.0 p.0 record_got (tried_taken b q.0 tries walk q.1) q.2) (keeps_all m k (links key before next own None) p.0 c (tt, (tt, (tt, tt))) p.2))
-  inserts_leave {key = key} b c (Inserts.has_it {hand = hand} {es = es} {fs = fs} tries walk few) t =
-      let p = parts m k (es ++ fs ++ back hand) (placed (Insert key) false ∷ []) b c t in
+  inserts_leave {key = key} b c (Inserts.has_it {shown = shown} {hand = hand} {es = es} {fs = fs} tries walk few) t =
+      let p = parts m k (es ++ fs ++ back hand) (placed (Insert key) false shown ∷ []) b c t in
       let q = parts m k (es ++ fs) (back hand) b p.0 p.1 in
-      drew_then (back_gives hand b q.0 p.0 (tried_taken b q.0 tries walk q.1) q.2).drew (keeps_all m k (placed (Insert key) false ∷ []) p.0 c (tt, tt) p.2)
+      drew_then (back_gives hand b q.0 p.0 (tried_taken b q.0 tries walk q.1) q.2).drew (keeps_all m k (placed (Insert key) false shown ∷ []) p.0 c (tt, tt) p.2)
   inserts_leave b c (Inserts.is_full {found = n} {es = es} {fs = fs} tries walk few) t =
       let p = parts m k (es ++ fs) (refused n ∷ []) b c t in
       let first = tried_taken b p.0 tries walk p.1 in

@@ -1,6 +1,7 @@
 -- What the walker of a list knows of the node at which it is, and of what it reached from there.
 use Rattle.std.specs.Prelude.{◌≡◌, ℕ, ◌+◌, ◌%◌, ◌<◌, true, false, Option, Some, None, Result, Ok, Err}
 use Rattle.record_memory.specs.declared.books.Setup.{Setup}
+use Rattle.record_memory.specs.declared.books.View.{View}
 use Rattle.row_words.specs.Refs.{LinkParts}
 use Rattle.row_words.specs.Packing.{packed_link, IsLink}
 use Rattle.record_rule.specs.Facts.{At as Stands, Near}
@@ -30,6 +31,26 @@ IsNext root before Stays next = next ≡ Ok before
 IsNext root before Restarts next = next ≡ Ok (Root root)
 IsNext root before (Found spot) next = next ≡ Err spot
 
+-- after how many updates a walk saw that its key is absent: when it reached the next record, or, where there is none, at its last look
+abbrev pub absent_at : View → Option Held → ℕ
+absent_at v None = v.own.updates_seen
+absent_at v (Some next) = (note_in v.own.notes next.place).reached_at
+
+-- after how many it saw the spot where it ended, if it did
+abbrev pub shown_at : View → Spot → ℕ
+shown_at v (Present before at link) = v.own.updates_seen
+shown_at v (Absent before next) = absent_at v next
+
+abbrev pub shown_of : View → Option Spot → Option ℕ
+shown_of v None = None
+shown_of v (Some spot) = Some (shown_at v spot)
+
+abbrev pub shown_by : View → Landing → Option ℕ
+shown_by v (On at found) = None
+shown_by v Stays = None
+shown_by v Restarts = None
+shown_by v (Found spot) = Some (shown_at v spot)
+
 module _ {S R : Type 0} where
   -- what the pass knows of the node
   abbrev pub near : Pass S R → Node → Near
@@ -54,13 +75,14 @@ module _ {S R : Type 0} where
     pub stands : StandsAt p root before
     pub below : rank p before < key + 1
 
-  -- and has reached the next record of the list; where that has a greater key, this one was seen to be absent
-  pub record HasReachedNext (p : Pass S R) (root key : ℕ) (before : Node) (at : Held) : Type 0 where
+  -- and has reached the next record of the list, after so many updates; where that has a greater key, this one was seen to be absent then
+  pub record HasReachedNext (p : Pass S R) (root key : ℕ) (before : Node) (at : Held) (seen : ℕ) : Type 0 where
     pub before_it : StandsBefore p root key before
     pub else : IsElsewhere (origin before) at.place
     pub stands : StandsAt p root (At at)
     pub rises : rank p before < rank p (At at)
-    pub gap : key + 1 < rank p (At at) → HasSeenKey p key false
+    pub reached_at : (note_in (view p).own.notes at.place).reached_at ≡ seen
+    pub gap : key + 1 < rank p (At at) → HasSeenKey p key false seen
 
   -- the next record, where there is one, has a greater key
   abbrev pub IsBeyond : Pass S R → ℕ → ℕ → Option Held → Type 0
@@ -69,8 +91,8 @@ module _ {S R : Type 0} where
 
   -- where a walk for the key ended, and what it saw of the key there
   abbrev pub IsSpot : Pass S R → ℕ → ℕ → Spot → Type 0
-  IsSpot p root key (Present before at link) = StandsBefore p root key before × StandsAt p root (At at) × (rank p (At at) ≡ key + 1) × (link.flags ≡ 0) × IsLink link × HasSeenKey p key true
-  IsSpot p root key (Absent before next) = StandsBefore p root key before × IsBeyond p root key next × HasSeenKey p key false
+  IsSpot p root key (Present before at link) = StandsBefore p root key before × StandsAt p root (At at) × (rank p (At at) ≡ key + 1) × (link.flags ≡ 0) × IsLink link × HasSeenKey p key true (view p).own.updates_seen
+  IsSpot p root key (Absent before next) = StandsBefore p root key before × IsBeyond p root key next × HasSeenKey p key false (absent_at (view p) next)
 
   -- where a hop from a node left it, which had this rank
   abbrev pub IsLanding : Pass S R → ℕ → ℕ → Node → ℕ → Landing → Type 0

@@ -16,9 +16,9 @@ use Rattle.michael_list.specs.declared.spots.Landing.TheVariants.{On, Stays, Res
 abbrev pub unmarked : LinkParts → LinkParts
 unmarked link = record link { flags = 0 }
 
--- the loads of a record's key and of its link
-abbrev pub loads : Held → ℕ → LinkParts → List Event
-loads at found link = keyed at.target found ∷ looked (At at) 3 link ∷ []
+-- the loads of a record's key and of its link, the second where so many updates had taken effect
+abbrev pub loads : Held → ℕ → LinkParts → ℕ → List Event
+loads at found link seen = keyed at.target found ∷ looked (At at) 3 link seen ∷ []
 
 -- a marked record is taken out behind its predecessor, whose link leads on from then as the record's did, and is retired; or the predecessor's link was another than it was known to be
 pub data TakesOut (before : Node) (gone : Held) (link : LinkParts) : Bool → List Event → Type 0 where
@@ -26,35 +26,35 @@ pub data TakesOut (before : Node) (gone : Held) (link : LinkParts) : Bool → Li
   is_refused : (other : LinkParts) → TakesOut before gone link false (unlinked before 3 gone.target link (Some other) ∷ [])
 
 module _ (key : ℕ) where
-  -- what follows once a hop from a node reached a record, and where that leaves the walk
-  pub data Looks (from : Node) (at : Held) : Landing → List Event → Type 0 where
-    -- the record has a smaller key, the key, or a greater one
-    passes : (found : ℕ) (link : LinkParts) → ¬ HasMark link → found < key → Looks from at (On at found) (loads at found link)
-    finds : (found : ℕ) (link : LinkParts) → ¬ HasMark link → found ≡ key → Looks from at (Found (Present from at link)) (loads at found link)
-    misses : (found : ℕ) (link : LinkParts) → ¬ HasMark link → key < found → Looks from at (Found (Absent from (Some at))) (loads at found link)
+  -- what follows once a hop from a node reached a record, which it did after so many updates, and where that leaves the walk; and, where that is its end, the number of updates after which this was so
+  pub data Looks (from : Node) (at : Held) (seen : ℕ) : Landing → Option ℕ → List Event → Type 0 where
+    -- the record has a smaller key, the key, or a greater one: that the key is present is shown by the load of the record's link, and that it is absent by the hop
+    passes : (found : ℕ) (link : LinkParts) (then : ℕ) → ¬ HasMark link → found < key → Looks from at seen (On at found) None (loads at found link then)
+    finds : (found : ℕ) (link : LinkParts) (then : ℕ) → ¬ HasMark link → found ≡ key → Looks from at seen (Found (Present from at link)) (Some then) (loads at found link then)
+    misses : (found : ℕ) (link : LinkParts) (then : ℕ) → ¬ HasMark link → key < found → Looks from at seen (Found (Absent from (Some at))) (Some seen) (loads at found link then)
     -- it has a mark, and this caller takes it out, or is late
-    clears : (found : ℕ) (link : LinkParts) {fs : List Event} → HasMark link → TakesOut from at (unmarked link) true fs → Looks from at Stays (loads at found link ++ fs)
-    is_late : (found : ℕ) (link : LinkParts) {fs : List Event} → HasMark link → TakesOut from at (unmarked link) false fs → Looks from at Restarts (loads at found link ++ fs)
+    clears : (found : ℕ) (link : LinkParts) (then : ℕ) {fs : List Event} → HasMark link → TakesOut from at (unmarked link) true fs → Looks from at seen Stays None (loads at found link then ++ fs)
+    is_late : (found : ℕ) (link : LinkParts) (then : ℕ) {fs : List Event} → HasMark link → TakesOut from at (unmarked link) false fs → Looks from at seen Restarts None (loads at found link then ++ fs)
 
-  -- a hop from a node with what follows up to the next one, and where that leaves the walk
-  pub data Hops (from : Node) : Landing → List Event → Type 0 where
+  -- a hop from a node with what follows up to the next one, and where that leaves the walk; and, where that is its end, the number of updates after which this was so
+  pub data Hops (from : Node) : Landing → Option ℕ → List Event → Type 0 where
     -- the node is the last one
-    ends : (place : ℕ) → Hops from (Found (Absent from None)) (hopped place from 3 Null ∷ [])
+    ends : (place seen : ℕ) → Hops from (Found (Absent from None)) (Some seen) (hopped place from 3 Null seen ∷ [])
     -- its link has another word than the one that this try knew
-    meets_mark : (place : ℕ) (link : LinkParts) → Hops from Restarts (hopped place from 3 (Marked link) ∷ [])
-    moves : (place found : ℕ) → Hops from Restarts (hopped place from 3 (Moved found) ∷ [])
+    meets_mark : (place : ℕ) (link : LinkParts) (seen : ℕ) → Hops from Restarts None (hopped place from 3 (Marked link) seen ∷ [])
+    moves : (place found seen : ℕ) → Hops from Restarts None (hopped place from 3 (Moved found) seen ∷ [])
     -- a record is reached
-    reaches : (place : ℕ) (at : Held) {landing : Landing} {fs : List Event} → Looks from at landing fs → Hops from landing (hopped place from 3 (Holds at) ∷ fs)
+    reaches : (place : ℕ) (at : Held) (seen : ℕ) {landing : Landing} {shown : Option ℕ} {fs : List Event} → Looks from at seen landing shown fs → Hops from landing shown (hopped place from 3 (Holds at) seen ∷ fs)
 
   -- so many hops, from the root to before this node; its rank is 0 for the root, and else the successor of its key
   pub data Walks (root : ℕ) : ℕ → Node → ℕ → List Event → Type 0 where
     starts : Walks root 0 (Root root) 0 []
-    goes_on : {hops rank : ℕ} {from : Node} {at : Held} {found : ℕ} {es fs : List Event} → Walks root hops from rank es → Hops from (On at found) fs → rank < found + 1
+    goes_on : {hops rank : ℕ} {from : Node} {at : Held} {found : ℕ} {es fs : List Event} → Walks root hops from rank es → Hops from (On at found) None fs → rank < found + 1
         → Walks root (hops + 1) (At at) (found + 1) (es ++ fs)
-    stays : {hops rank : ℕ} {from : Node} {es fs : List Event} → Walks root hops from rank es → Hops from Stays fs → Walks root (hops + 1) from rank (es ++ fs)
-    restarts : {hops rank : ℕ} {from : Node} {es fs : List Event} → Walks root hops from rank es → Hops from Restarts fs → Walks root (hops + 1) (Root root) 0 (es ++ fs)
+    stays : {hops rank : ℕ} {from : Node} {es fs : List Event} → Walks root hops from rank es → Hops from Stays None fs → Walks root (hops + 1) from rank (es ++ fs)
+    restarts : {hops rank : ℕ} {from : Node} {es fs : List Event} → Walks root hops from rank es → Hops from Restarts None fs → Walks root (hops + 1) (Root root) 0 (es ++ fs)
 
-  -- so many hops to where the key's place was found, or to where one more was needed
-  pub data Finds (root : ℕ) : ℕ → Option Spot → List Event → Type 0 where
-    found : {hops rank : ℕ} {from : Node} {spot : Spot} {es fs : List Event} → Walks root hops from rank es → Hops from (Found spot) fs → Finds root (hops + 1) (Some spot) (es ++ fs)
-    needs_more : {hops rank : ℕ} {from : Node} {es : List Event} → Walks root hops from rank es → Finds root hops None es
+  -- so many hops to where the key's place was found, as it was after so many updates, or to where one more was needed
+  pub data Finds (root : ℕ) : ℕ → Option Spot → Option ℕ → List Event → Type 0 where
+    found : {hops rank shown : ℕ} {from : Node} {spot : Spot} {es fs : List Event} → Walks root hops from rank es → Hops from (Found spot) (Some shown) fs → Finds root (hops + 1) (Some spot) (Some shown) (es ++ fs)
+    needs_more : {hops rank : ℕ} {from : Node} {es : List Event} → Walks root hops from rank es → Finds root hops None None es

@@ -66,6 +66,7 @@ fn give_back<'a, R: Scheme, A: Allocator, P: Pool>(
     ensures same { IsSameGuard guard.old guard.new }
     ensures answers { AnswersNone (view guard.old.caller.now.pass) (view guard.new.caller.now.pass) }
     ensures keeps { KeepsHeld guard.old.caller.now.pass guard.new.caller.now.pass }
+    ensures seen { (view guard.new.caller.now.pass).own.updates_seen ≡ (view guard.old.caller.now.pass).own.updates_seen }
     ensures did { DidAll guard.old (back hand) guard.new }
 {
     if let Some(own) = hand {

@@ -5,18 +5,20 @@ ghost use Rattle.row_words.specs.Refs.{LinkParts};
 ghost use Rattle.row_words.specs.Packing.{packed_link, IsLink};
 ghost use Rattle.record_rule.specs.Facts.{At as Stands};
 ghost use Rattle.record_rule.specs.Links.{note_in};
+ghost use Rattle.record_rule.specs.Placing.{placed_view};
+ghost use Rattle.list_facts.specs.Michael.{michael};
 ghost use Rattle.list_facts.specs.Steps.{marked_with};
 ghost use Rattle.record_table.specs.Handles.{setup_of, view};
-ghost use Rattle.record_table.specs.Nodes.{origin_held};
+ghost use Rattle.record_table.specs.Nodes.{origin_held, HasStarted, MayPlaceIn};
 ghost use Rattle.record_table.specs.declared.nodes.Node.TheVariants.{At};
-ghost use Rattle.record_pieces.specs.Events.{Event};
+ghost use Rattle.record_pieces.specs.Events.{Event, placed};
 ghost use Rattle.reclaim_api.specs.Holds.{KeepsButLink};
 ghost use Rattle.manager.specs.Callers.{AnswersNone};
-ghost use Rattle.manager.specs.Guards.{IsAtWork, DidAll};
+ghost use Rattle.manager.specs.Guards.{IsAtWork, Did, DidAll};
 ghost use Rattle.set_calls.specs.Going.{IsSameGuard};
 ghost use Rattle.set_calls.specs.Answers.{Decided, RemoveTells, SearchTells};
 ghost use Rattle.michael_list.specs.Pieces.{marks, Removings, Removes, Searches};
-ghost use Rattle.michael_list.specs.Knowing.{IsHome, StandsAt, rank};
+ghost use Rattle.michael_list.specs.Knowing.{IsHome, StandsAt, rank, absent_at};
 
 use crate::shape::MichaelShape;
 use crate::spots::Spot;
@@ -58,6 +60,26 @@ pub fn mark<'a, R: Scheme, A: Allocator, P: Pool>(
     }
 }
 
+// Places a removal or a search of a key that a walk found absent, behind just as many updates as there were when it
+// saw that, which the next record tells.
+fn place_absent<'a, R: Scheme, A: Allocator, P: Pool>(
+    guard: &mut Guard<'a, MichaelShape, R, A, P>,
+    _next: &Option<Held>,
+    call: Call,
+)
+    ghost position: { ℕ }
+    requires at_work { IsAtWork guard.old }
+    requires started { HasStarted guard.old.caller.now.pass }
+    requires position { position ≡ absent_at (view guard.old.caller.now.pass) _next.now }
+    requires allowed { MayPlaceIn michael (view guard.old.caller.now.pass) position call false }
+    ensures at_work { IsAtWork guard.new }
+    ensures same { IsSameGuard guard.old guard.new }
+    ensures step { (found : ℕ) × (view guard.new.caller.now.pass ≡ placed_view (view guard.old.caller.now.pass) 0 found position call false) }
+    ensures did { Did guard.old (placed call false position) guard.new }
+{
+    guard.place(call, false);
+}
+
 // One try: a walk, and what comes of it. `None`: a word had changed.
 fn try_remove<'a, R: Scheme, A: Allocator, P: Pool>(
     guard: &mut Guard<'a, MichaelShape, R, A, P>,
@@ -77,8 +99,8 @@ fn try_remove<'a, R: Scheme, A: Allocator, P: Pool>(
 {
     match find(guard, root, key, budget, hops) {
         None => Some(LookAnswer::Again { hops: *hops }),
-        Some(Spot::Absent { .. }) => {
-            guard.place(Call::Remove(key), false);
+        Some(Spot::Absent { next, .. }) => {
+            place_absent(guard, &next, Call::Remove(key));
             Some(LookAnswer::Done(false))
         }
         Some(Spot::Present { before, at, link }) => {
@@ -134,8 +156,8 @@ pub(crate) fn search<'a, R: Scheme, A: Allocator, P: Pool>(
             guard.place(Call::Search(key), true);
             LookAnswer::Done(true)
         }
-        Some(Spot::Absent { .. }) => {
-            guard.place(Call::Search(key), false);
+        Some(Spot::Absent { next, .. }) => {
+            place_absent(guard, &next, Call::Search(key));
             LookAnswer::Done(false)
         }
     }

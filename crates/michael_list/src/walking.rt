@@ -2,7 +2,7 @@
 ghost use Rattle.std.specs.Prelude.{◌≡◌, ◌<◌, ◌≤◌, ◌+◌, ℕ, List, Option, Some, MatchOption, true};
 ghost use Rattle.record_rule.specs.Facts.{HasMark};
 ghost use Rattle.row_words.specs.Packing.{IsLink};
-ghost use Rattle.record_table.specs.Handles.{setup_of};
+ghost use Rattle.record_table.specs.Handles.{setup_of, view};
 ghost use Rattle.record_table.specs.Nodes.{origin, HoldsNode, HoldsThere};
 ghost use Rattle.record_table.specs.declared.nodes.Node.TheVariants.{At};
 ghost use Rattle.reclaim_api.specs.Holds.{KeepsButLink, IsElsewhere};
@@ -11,7 +11,7 @@ ghost use Rattle.manager.specs.Guards.{IsAtWork, DidAll};
 ghost use Rattle.set_calls.specs.Going.{GoesOn};
 ghost use Rattle.set_calls.specs.Knowing.{HasSeenKey};
 ghost use Rattle.michael_list.specs.Walks.{unmarked, loads, TakesOut, Looks, Hops, Finds};
-ghost use Rattle.michael_list.specs.Knowing.{IsHome, StandsBefore, IsMarkNoted, HasReachedNext, IsLanding, IsNext, IsSpot, rank};
+ghost use Rattle.michael_list.specs.Knowing.{IsHome, StandsBefore, IsMarkNoted, HasReachedNext, IsLanding, IsNext, IsSpot, rank, shown_by, shown_of};
 
 use crate::shape::MichaelShape;
 use crate::spots::{Landing, Spot};
@@ -71,15 +71,15 @@ fn read<'a, R: Scheme, A: Allocator, P: Pool>(
     key: u64,
 ) -> (u64, Link)
     requires at_work { IsAtWork guard.old }
-    requires reached { HasReachedNext guard.old.caller.now.pass root key before.now at.now }
+    requires reached { HasReachedNext guard.old.caller.now.pass root key before.now at.now (view guard.old.caller.now.pass).own.updates_seen }
     ensures at_work { IsAtWork guard.new }
     ensures on { GoesOn guard.old guard.new }
-    ensures reached { HasReachedNext guard.new.caller.now.pass root key before.now at.now }
+    ensures reached { HasReachedNext guard.new.caller.now.pass root key before.now at.now (view guard.old.caller.now.pass).own.updates_seen }
     ensures low { rank guard.new.caller.now.pass before.now ≡ rank guard.old.caller.now.pass before.now }
     ensures key { rank guard.new.caller.now.pass (At at.now) ≡ result.0 + 1 }
     ensures marked { HasMark result.1 → IsMarkNoted guard.new.caller.now.pass at.now (unmarked result.1) }
-    ensures clear { ¬ HasMark result.1 → (result.1.flags ≡ 0) × IsLink result.1 × (result.0 ≡ key → HasSeenKey guard.new.caller.now.pass key true) }
-    ensures did { DidAll guard.old (loads at.now result.0 result.1) guard.new }
+    ensures clear { ¬ HasMark result.1 → (result.1.flags ≡ 0) × IsLink result.1 × (result.0 ≡ key → HasSeenKey guard.new.caller.now.pass key true (view guard.new.caller.now.pass).own.updates_seen) }
+    ensures did { DidAll guard.old (loads at.now result.0 result.1 (view guard.new.caller.now.pass).own.updates_seen) guard.new }
 {
     let found = guard.load_key(same_held(at));
     let link = guard.load_link(Node::At(same_held(at)), LINK);
@@ -95,11 +95,11 @@ fn look<'a, R: Scheme, A: Allocator, P: Pool>(
     key: u64,
 ) -> Landing
     requires at_work { IsAtWork guard.old }
-    requires reached { HasReachedNext guard.old.caller.now.pass root key before at }
+    requires reached { HasReachedNext guard.old.caller.now.pass root key before at (view guard.old.caller.now.pass).own.updates_seen }
     ensures at_work { IsAtWork guard.new }
     ensures on { GoesOn guard.old guard.new }
     ensures landing { IsLanding guard.new.caller.now.pass root key before (rank guard.old.caller.now.pass before) result }
-    ensures did { (es : List Event) × Looks key before at result es × DidAll guard.old es guard.new }
+    ensures did { (es : List Event) × Looks key before at (view guard.old.caller.now.pass).own.updates_seen result (shown_by (view guard.new.caller.now.pass) result) es × DidAll guard.old es guard.new }
 {
     let (found, link) = read(guard, root, &before, &at, key);
     if link.is_marked() {
@@ -131,7 +131,7 @@ fn hop<'a, R: Scheme, A: Allocator, P: Pool>(
     ensures at_work { IsAtWork guard.new }
     ensures on { GoesOn guard.old guard.new }
     ensures landing { IsLanding guard.new.caller.now.pass root key before.now (rank guard.old.caller.now.pass before.now) result }
-    ensures did { (es : List Event) × Hops key before.now result es × DidAll guard.old es guard.new }
+    ensures did { (es : List Event) × Hops key before.now result (shown_by (view guard.new.caller.now.pass) result) es × DidAll guard.old es guard.new }
 {
     let place = place_behind(before);
     match guard.hold(place, same_node(before), LINK) {
@@ -177,7 +177,7 @@ pub fn find<'a, R: Scheme, A: Allocator, P: Pool>(
     ensures on { GoesOn guard.old guard.new }
     ensures hops { hops.new ≤ budget }
     ensures spot { MatchOption result (hops.new ≡ budget) (λ spot. (hops.old < hops.new) × IsSpot guard.new.caller.now.pass root key spot) }
-    ensures did { (made : ℕ) × (es : List Event) × (hops.new ≡ hops.old + made) × Finds key root made result es × DidAll guard.old es guard.new }
+    ensures did { (made : ℕ) × (es : List Event) × (hops.new ≡ hops.old + made) × Finds key root made result (shown_of (view guard.new.caller.now.pass) result) es × DidAll guard.old es guard.new }
 {
     let mut before = Node::Root(root);
     while *hops < budget {

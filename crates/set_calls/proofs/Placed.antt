@@ -38,21 +38,18 @@ named_says _ updates call reply of_plain says = says
 named_says _ updates call reply of_michael says = says
 named_says _ updates call reply of_lazy says = says
 
-module _ (s : ShapeFacts) {S R : Type 0} (p : Pass S R) (call : Call) (present reply : Bool) (seen : HasSeenKey p (key_of call) present) where
+module _ (s : ShapeFacts) {S R : Type 0} (p : Pass S R) (call : Call) (present reply : Bool) {position : ℕ} (seen : HasSeenKey p (key_of call) present position) where
   -- the answer may be placed behind the updates of which it was seen, where nobody else may decide the call
-  pub may_answer : ¬ s.helped → IsAnswer call present reply → (position : ℕ) × MayPlaceIn s (view p) position call reply
-  may_answer unhelped is = (
-    length seen.updates,
-    record {
-      since_start = seen.since_start;
-      may = record {
-        behind = let e = ap length seen.front.1 in let l = length-append (view p).front seen.front.0 in omega arith;
-        within = let e = ap length seen.seen.1 in let l = length-append seen.updates seen.seen.0 in omega arith;
-        replies = subst (λ (l : List Update). replies_for (view p).setup.set l call reply) (sym taken) (named_says (view p).setup.set seen.updates call reply seen.of_keys (machine_says seen.updates call present reply is seen.answer));
-        unoffered = λ helped. absurd (unhelped helped);
-      };
-    },
-  )
+  pub may_answer : ¬ s.helped → IsAnswer call present reply → MayPlaceIn s (view p) position call reply
+  may_answer unhelped is = subst (λ k. MayPlaceIn s (view p) k call reply) seen.many (record {
+    since_start = seen.since_start;
+    may = record {
+      behind = let e = ap length seen.front.1 in let l = length-append (view p).front seen.front.0 in omega arith;
+      within = let e = ap length seen.seen.1 in let l = length-append seen.updates seen.seen.0 in omega arith;
+      replies = subst (λ (l : List Update). replies_for (view p).setup.set l call reply) (sym taken) (named_says (view p).setup.set seen.updates call reply seen.of_keys (machine_says seen.updates call present reply is seen.answer));
+      unoffered = λ helped. absurd (unhelped helped);
+    };
+  })
     where
       taken : take (length seen.updates) (view p).seen_updates ≡ seen.updates
       taken = ap (take (length seen.updates)) seen.seen.1 ∙ take-append-le (length seen.updates) seen.updates seen.seen.0 (omega arith) ∙ take-length seen.updates
@@ -72,7 +69,7 @@ read_placed s v w found position call reply may whole is = record {
     position_is = sym (ap length front ∙ length-take-le position v.seen_updates may.may.within)
 
 -- by a caller that had answered no call since p
-pub read_seen : (s : ShapeFacts) {S R : Type 0} (p q r : Pass S R) (call : Call) (present reply : Bool) → HasSeenKey q (key_of call) present → (view q).setup ≡ (view p).setup → AnswersNone (view p) (view q)
-    → (position : ℕ) × (found : ℕ) × MayPlaceIn s (view q) position call reply × (view r ≡ placed_view (view q) 0 found position call reply) → Read call reply (view p) (view r)
-read_seen s p q r call present reply seen setup none step = read_since (view p) (view q) (view r) call reply setup none
-    (read_placed s (view q) (view r) step.1 step.0 call reply step.2 (starts_then (view q).front seen.updates (view q).seen_updates seen.front seen.seen) step.3)
+pub read_seen : (s : ShapeFacts) {S R : Type 0} (p q r : Pass S R) (call : Call) (present reply : Bool) {position : ℕ} → HasSeenKey q (key_of call) present position → ¬ s.helped → IsAnswer call present reply → (view q).setup ≡ (view p).setup → AnswersNone (view p) (view q)
+    → (found : ℕ) × (view r ≡ placed_view (view q) 0 found position call reply) → Read call reply (view p) (view r)
+read_seen s p q r call present reply {position} seen unhelped is setup none step = read_since (view p) (view q) (view r) call reply setup none
+    (read_placed s (view q) (view r) step.0 position call reply (may_answer s q call present reply seen unhelped is) (starts_then (view q).front seen.updates (view q).seen_updates seen.front seen.seen) step.1)

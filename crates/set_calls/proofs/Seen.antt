@@ -4,6 +4,7 @@ use Rattle.set_model.specs.declared.names.SetName.{SetName}
 use Rattle.set_model.specs.Keys.{contains}
 use Rattle.set_model.specs.Histories.{keys_of}
 use Rattle.record_memory.specs.declared.books.Setup.{Setup}
+use Rattle.record_memory.specs.declared.books.View.{View}
 use Rattle.row_words.specs.Refs.{LinkParts}
 use Rattle.record_rule.specs.Facts.{ShapeFacts, CoverFacts}
 use Rattle.record_rule.specs.World.{StartsWith}
@@ -18,10 +19,11 @@ use Rattle.set_calls.specs.Knowing.{IsOfKeys, HasSeenKey}
 
 module _ {S R : Type 0} (p q : Pass S R) (setup : (view q).setup ≡ (view p).setup) (none : AnswersNone (view p) (view q)) (key : ℕ) (present : Bool) where
   -- what was seen is so still
-  pub seen_still : (places : ℕ → Type 0) (words : ℕ → ℕ → Type 0) → KeepsSome places words p q → HasSeenKey p key present → HasSeenKey q key present
+  pub seen_still : (places : ℕ → Type 0) (words : ℕ → ℕ → Type 0) {position : ℕ} → KeepsSome places words p q → HasSeenKey p key present position → HasSeenKey q key present position
   seen_still places words keeps h = record {
     of_keys = subst (λ (k : Setup). IsOfKeys k.set) (sym setup) h.of_keys;
     updates = h.updates;
+    many = h.many;
     seen = starts_then h.updates (view p).seen_updates (view q).seen_updates h.seen keeps.noted;
     front = subst (StartsWith h.updates) (sym none.front) h.front;
     started = (keeps.goes_on h.started).0;
@@ -30,11 +32,12 @@ module _ {S R : Type 0} (p q : Pass S R) (setup : (view q).setup ≡ (view p).se
   }
 
   module _ (s : ShapeFacts) (keys : IsOfKeys s.name) (o : Origin) where
-    -- by the last load of a link in a try to hold what it leads to
-    pub seen_by_hold : (place : ℕ) (link : LinkParts) (seen : HasSeen s place o p q link) → contains (keys_of seen.updates) key ≡ present → HasSeenKey q key present
+    -- by the last load of a link in a try to hold what it leads to, which is the last that the pass noted
+    pub seen_by_hold : (place : ℕ) (link : LinkParts) (seen : HasSeen s place o p q link) → contains (keys_of seen.updates) key ≡ present → HasSeenKey q key present (view q).own.updates_seen
     seen_by_hold place link seen answer = record {
       of_keys = subst IsOfKeys (sym (ap (λ (k : Setup). k.set) (setup ∙ sym seen.setup) ∙ seen.saw.set_is)) keys;
       updates = seen.updates;
+      many = sym seen.seen;
       seen = seen.noted;
       front = subst (StartsWith seen.updates) (sym none.front) seen.whole.front;
       started = seen.started;
@@ -43,10 +46,11 @@ module _ {S R : Type 0} (p q : Pass S R) (setup : (view q).setup ≡ (view p).se
     }
 
     -- by the load of a link of what is held
-    pub seen_by_load : (c : CoverFacts) (first : Bool) (n : ℕ) → LoadedLink s c (view p) o 3 first n (view q) → KeepsHeld p q → HasStarted p → contains (keys_of (view q).seen_updates) key ≡ present → HasSeenKey q key present
+    pub seen_by_load : (c : CoverFacts) (first : Bool) (n : ℕ) → LoadedLink s c (view p) o 3 first n (view q) → KeepsHeld p q → HasStarted p → contains (keys_of (view q).seen_updates) key ≡ present → HasSeenKey q key present (view q).own.updates_seen
     seen_by_load c first n told keeps started answer = record {
       of_keys = subst IsOfKeys (sym (ap (λ (k : Setup). k.set) setup ∙ told.saw.set_is)) keys;
       updates = (view q).seen_updates;
+      many = sym (ap (λ (v : View). v.own.updates_seen) told.view);
       seen = starts_itself (view q).seen_updates;
       front = subst (StartsWith (view q).seen_updates) (sym none.front) told.whole.front;
       started = (keeps.goes_on started).0;

@@ -24,10 +24,11 @@ pub data IsAnswer : Call → Bool → Bool → Type 0 where
   removal : (key : ℕ) → IsAnswer (Remove key) false false
   search_ : (key : ℕ) (present : Bool) → IsAnswer (Search key) present present
 
--- the key is in the set, or isn't, after some updates that the pass has seen, no fewer than when its guard started
-pub record HasSeenKey {S R : Type 0} (p : Pass S R) (key : ℕ) (present : Bool) : Type 0 where
+-- the key is in the set, or isn't, after so many updates, which the pass has seen, no fewer than when its guard started
+pub record HasSeenKey {S R : Type 0} (p : Pass S R) (key : ℕ) (present : Bool) (position : ℕ) : Type 0 where
   pub of_keys : IsOfKeys (view p).setup.set
   pub updates : List Update
+  pub many : length updates ≡ position
   pub seen : StartsWith (view p).seen_updates updates
   pub front : StartsWith updates (view p).front
   pub started : HasStarted p

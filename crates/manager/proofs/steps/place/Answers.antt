@@ -16,9 +16,9 @@ leaves g c = let e = c.place.ensures.placed.1 in let v : View = view c.args.call
 
 pub returns-clause-caller : goal.returns-clause-caller
 returns-clause-caller g c = let a = c.args.caller.now in let q = c.place.new.pass in let same = c.place.ensures.pass in let l = leaves g c in record {
-  inside = inside_still g.R.Scheme.is_local a.pass q same a.local a.free a.spare g.met.R.Scheme.local_stays l c.requires.caller.inside;
-  chains = chains_still g.R.Scheme.is_local a.pass q same a.local a.free a.spare g.met.R.Scheme.local_stays l c.requires.caller.chains;
-  counts = counts_left g.R.Cover.facts _ _ a.moved l c.requires.caller.counts;
+  inside = inside_still g.R.Scheme.is_local a.pass q same a.local a.free a.spare g.met.R.Scheme.local_stays l c.requires.1.1.1.1.0.inside;
+  chains = chains_still g.R.Scheme.is_local a.pass q same a.local a.free a.spare g.met.R.Scheme.local_stays l c.requires.1.1.1.1.0.chains;
+  counts = counts_left g.R.Cover.facts _ _ a.moved l c.requires.1.1.1.1.0.counts;
 }
 
 pub returns-clause-keeps : goal.returns-clause-keeps
@@ -29,4 +29,4 @@ pub returns-clause-owns : goal.returns-clause-owns
 returns-clause-owns g c = owns_mine _ _ (ap (λ (k : Setup). k.records) c.place.ensures.pass.setup) (ap (λ (x : View). x.own.mine) c.place.ensures.placed.1)
 
 pub returns-clause-stock : goal.returns-clause-stock
-returns-clause-stock g c = let a = c.args.caller.now in stock_still g.R.Scheme.is_local a.pass c.place.new.pass c.place.ensures.pass a.local a.free a.spare g.met.R.Scheme.local_stays (leaves g c) c.requires.caller.chains
+returns-clause-stock g c = let a = c.args.caller.now in stock_still g.R.Scheme.is_local a.pass c.place.new.pass c.place.ensures.pass a.local a.free a.spare g.met.R.Scheme.local_stays (leaves g c) c.requires.1.1.1.1.0.chains

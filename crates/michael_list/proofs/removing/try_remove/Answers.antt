@@ -12,13 +12,13 @@ use Rattle.set_calls.proofs.Answering.{decided_between, none_then}
 use Rattle.michael_list.specs.declared.spots.Spot.TheVariants.{Present}
 use Rattle.michael_list.specs.Walks.{Finds}
 use Rattle.michael_list.specs.Pieces.{marks, Removings, Removes, more, takes_away, lacks_it, again}
-use Rattle.michael_list.specs.Knowing.{IsSpot}
+use Rattle.michael_list.specs.Knowing.{IsSpot, absent_at}
 use Rattle.michael_list.proofs.Standing.{stands_relinked}
 use Rattle.michael_list.proofs.Ends.{is_spot, finds_it}
 use Rattle.michael_list.proofs.removing.try_remove.Goals as goal
 
 -- where the walk ended
-missing_there : (g : _) (c : goal.After-place g) → HasSeenKey c.find.new.guard.caller.now.pass c.args.key false
+missing_there : (g : _) (c : goal.After-place_absent g) → HasSeenKey c.find.new.guard.caller.now.pass c.args.key false (absent_at (view c.find.new.guard.caller.now.pass) c.in-Some-Absent.next)
 missing_there g c = (is_spot c.find.new.guard.caller.now.pass c.args.root c.args.key c.in-Some-Absent.field-0-is c.in-Some-Absent.ensures.spot.1).2
 
 spot_there : (g : _) (c : goal.After-at-1 g) → IsSpot c.find.new.guard.caller.now.pass c.args.root c.args.key (Present c.in-Some-Present.before c.in-Some-Present.at c.in-Some-Present.link)
@@ -27,8 +27,8 @@ spot_there g c = is_spot c.find.new.guard.caller.now.pass c.args.root c.args.key
 marked_there : (g : _) (c : goal.After-at-in-Some-Present-1 g) → IsSpot c.find.new.guard.caller.now.pass c.args.root c.args.key (Present c.in-Some-Present.before c.in-Some-Present.at c.in-Some-Present.link)
 marked_there g c = is_spot c.find.new.guard.caller.now.pass c.args.root c.args.key c.in-Some-Present.field-0-is c.in-Some-Present.ensures.spot.1
 
-pub place-requires-clause-allowed : goal.place-requires-clause-allowed
-place-requires-clause-allowed g c = may_answer michael c.find.new.guard.caller.now.pass (Remove c.args.key) false false
+pub place_absent-requires-clause-allowed : goal.place_absent-requires-clause-allowed
+place_absent-requires-clause-allowed g c = may_answer michael c.find.new.guard.caller.now.pass (Remove c.args.key) false false
     (is_spot c.find.new.guard.caller.now.pass c.args.root c.args.key c.in-Some-Absent.field-0-is c.in-Some-Absent.ensures.spot.1).2 (λ h. h) (removal c.args.key)
 
 pub mark-requires-clause-at : goal.mark-requires-clause-at
@@ -61,14 +61,14 @@ returns-in-None-clause-did g c = let did = c.in-None.ensures.did in let end = c.
     )
 
 pub returns-in-Some-Absent-clause-tells : goal.returns-in-Some-Absent-clause-tells
-returns-in-Some-Absent-clause-tells g c = read_seen michael c.args.guard.now.caller.now.pass c.find.new.guard.caller.now.pass c.place.new.self.caller.now.pass (Remove c.args.key) false false (missing_there g c)
-    c.find.ensures.on.same.pass.setup c.find.ensures.on.answers c.place.ensures.step
+returns-in-Some-Absent-clause-tells g c = read_seen michael c.args.guard.now.caller.now.pass c.find.new.guard.caller.now.pass c.place_absent.new.guard.caller.now.pass (Remove c.args.key) false false (missing_there g c) (λ h. h) (removal c.args.key)
+    c.find.ensures.on.same.pass.setup c.find.ensures.on.answers c.place_absent.ensures.step
 
 pub returns-in-Some-Absent-clause-did : goal.returns-in-Some-Absent-clause-did
-returns-in-Some-Absent-clause-did g c = let f = c.args.guard.now in let h = c.find.new.guard in let i = c.place.new.self in let did = c.in-Some-Absent.ensures.did in
-    let e : Event = placed (Remove c.args.key) false in let finds = finds_it c.args.root c.args.key did.0 did.1 c.in-Some-Absent.field-0-is did.3 in (
+returns-in-Some-Absent-clause-did g c = let f = c.args.guard.now in let h = c.find.new.guard in let i = c.place_absent.new.guard in let did = c.in-Some-Absent.ensures.did in
+    let v = view h.caller.now.pass in let e : Event = placed (Remove c.args.key) false (absent_at v c.in-Some-Absent.next) in let finds = finds_it v c.args.root c.args.key did.0 did.1 c.in-Some-Absent.field-0-is did.3 in (
       did.1 ++ e ∷ [],
-      did_then f h i did.1 (e ∷ []) c.find.ensures.on.same.manager did.4 (did_one h i e c.place.ensures.did),
+      did_then f h i did.1 (e ∷ []) c.find.ensures.on.same.manager did.4 (did_one h i e c.place_absent.ensures.did),
       λ ds tries. subst (λ l. Removes c.args.root c.args.key c.args.budget (Looked false) l) (append_assoc ds did.1 (e ∷ [])) (lacks_it tries finds (let n = did.2 in let l = c.find.ensures.hops in omega arith)),
     )
 
@@ -81,7 +81,7 @@ returns-then-not-mark-clause-tells g c = (c.in-Some-Present.ensures.spot.0, none
 pub returns-then-not-mark-clause-did : goal.returns-then-not-mark-clause-did
 returns-then-not-mark-clause-did g c = let f = c.args.guard.now in let h = c.find.new.guard in let i = c.mark.new.guard in let did = c.in-Some-Present.ensures.did in
     let root = c.args.root in let key = c.args.key in let at = c.in-Some-Present.at in let link = c.in-Some-Present.link in let refused = c.if-not-mark.ensures.did in
-    let finds : Finds key root did.0 (Some (Present c.in-Some-Present.before at link)) did.1 = finds_it root key did.0 did.1 c.in-Some-Present.field-0-is did.3 in
+    let finds : Finds key root did.0 (Some (Present c.in-Some-Present.before at link)) (Some (view h.caller.now.pass).own.updates_seen) did.1 = finds_it (view h.caller.now.pass) root key did.0 did.1 c.in-Some-Present.field-0-is did.3 in
     let mark = marks key at link (Some refused.0) in (
       did.1 ++ mark,
       did_then f h i did.1 mark c.find.ensures.on.same.manager did.4 refused.1,
@@ -99,7 +99,7 @@ returns-else-not-mark-clause-tells g c = decided_between (view c.args.guard.now.
 pub returns-else-not-mark-clause-did : goal.returns-else-not-mark-clause-did
 returns-else-not-mark-clause-did g c = let f = c.args.guard.now in let h = c.find.new.guard in let i = c.mark.new.guard in let j = c.take_out.new.guard in let did = c.in-Some-Present.ensures.did in
     let root = c.args.root in let key = c.args.key in let at = c.in-Some-Present.at in let link = c.in-Some-Present.link in let out = c.take_out.ensures.did in
-    let finds : Finds key root did.0 (Some (Present c.in-Some-Present.before at link)) did.1 = finds_it root key did.0 did.1 c.in-Some-Present.field-0-is did.3 in
+    let finds : Finds key root did.0 (Some (Present c.in-Some-Present.before at link)) (Some (view h.caller.now.pass).own.updates_seen) did.1 = finds_it (view h.caller.now.pass) root key did.0 did.1 c.in-Some-Present.field-0-is did.3 in
     let mark = marks key at link None in (
       did.1 ++ (mark ++ out.0),
       did_then f h j did.1 (mark ++ out.0) c.find.ensures.on.same.manager did.4 (did_then h i j mark out.0 c.mark.ensures.same.manager c.if-not-mark.ensures.did out.2),

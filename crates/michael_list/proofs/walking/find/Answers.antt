@@ -1,8 +1,9 @@
-use Rattle.std.proofs.Common.{◌+◌, [], ◌++◌, refl, arith}
+use Rattle.std.proofs.Common.{◌+◌, Some, [], ◌++◌, refl, arith}
+use Rattle.record_table.specs.Handles.{view}
 use Rattle.set_calls.proofs.Going.{goes_nowhere, goes_then, did_then}
 use Rattle.michael_list.specs.declared.spots.Landing.TheVariants.{Found}
 use Rattle.michael_list.specs.Walks.{Hops, starts, found, needs_more}
-use Rattle.michael_list.specs.Knowing.{IsSpot, rank}
+use Rattle.michael_list.specs.Knowing.{IsSpot, rank, shown_at}
 use Rattle.michael_list.proofs.Homes.{home_then, root_there}
 use Rattle.michael_list.proofs.Steps.{at_root, next_from, ends_at}
 use Rattle.michael_list.proofs.walking.find.Goals as goal
@@ -37,7 +38,7 @@ pub returns-in-Err-clause-on : goal.returns-in-Err-clause-on
 returns-in-Err-clause-on g c = goes_then c.args.guard.now c.loop-hops.guard c.hop-landing.new.guard c.loop-hops.invariant.on c.hop-landing.ensures.on
 
 -- the walk ends where the last hop came to
-ended : (g : _) (c : goal.In-Err g) → IsSpot c.hop-landing.new.guard.caller.now.pass c.args.root c.args.key c.in-Err.spot × Hops c.args.key c.loop-hops.before (Found c.in-Err.spot) c.hop-landing.ensures.did.0
+ended : (g : _) (c : goal.In-Err g) → IsSpot c.hop-landing.new.guard.caller.now.pass c.args.root c.args.key c.in-Err.spot × Hops c.args.key c.loop-hops.before (Found c.in-Err.spot) (Some (shown_at (view c.hop-landing.new.guard.caller.now.pass) c.in-Err.spot)) c.hop-landing.ensures.did.0
 ended g c =
     let f = c.args.guard.now in let h = c.loop-hops.guard in let i = c.hop-landing.new.guard in
     let on = goes_then f h i c.loop-hops.invariant.on c.hop-landing.ensures.on in

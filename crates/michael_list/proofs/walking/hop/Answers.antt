@@ -1,7 +1,8 @@
-use Rattle.std.proofs.Common.{◌≡◌, ◌%◌, [], ◌∷◌, None, sym, ap, ◌∙◌, subst, arith}
+use Rattle.std.proofs.Common.{◌≡◌, ◌%◌, [], ◌∷◌, Some, None, sym, ap, ◌∙◌, subst, arith}
 use Rattle.record_memory.specs.declared.books.Setup.{Setup}
 use Rattle.list_facts.specs.Michael.{michael}
 use Rattle.record_table.specs.declared.nodes.Node.{Node}
+use Rattle.record_table.specs.Handles.{view}
 use Rattle.record_table.specs.Nodes.{origin}
 use Rattle.reclaim_api.specs.Holds.{HasSeen, IsElsewhere}
 use Rattle.reclaim_api.specs.declared.holding.Holding.TheVariants.{Null, Held as Holds, Marked, Moved}
@@ -11,7 +12,7 @@ use Rattle.set_calls.proofs.Going.{did_one, did_then}
 use Rattle.michael_list.specs.Walks.{Looks, Hops, ends, meets_mark, moves, reaches}
 use Rattle.michael_list.specs.declared.spots.Spot.TheVariants.{Absent}
 use Rattle.michael_list.specs.declared.spots.Landing.TheVariants.{Found}
-use Rattle.michael_list.specs.Knowing.{StandsBefore, HasReachedNext, IsLanding, rank}
+use Rattle.michael_list.specs.Knowing.{StandsBefore, HasReachedNext, IsLanding, rank, shown_by}
 use Rattle.michael_list.proofs.Reached.{absent_at_end, before_still, stands_else, reaches_next}
 use Rattle.michael_list.proofs.walking.hop.Goals as goal
 
@@ -26,7 +27,7 @@ look-requires-clause-reached g c =
     let p = c.args.guard.now.caller.now.pass in let q = c.hold.new.self.caller.now.pass in let place = c.place_behind-place.result in let told = c.in-Held.ensures.reached in let last = told.2 in
     let home = ap (λ (k : Setup). c.args.key % k.roots) c.args.guard.now.of.setup ∙ c.requires.home.1 in
     let seen = subst (λ (n : Node). HasSeen michael place (origin n) p q last.0) c.same_node.ensures last.3 in
-    subst (λ (n : Node). HasReachedNext q c.args.root c.args.key n c.in-Held.at) (sym c.same_node-from.ensures)
+    subst (λ (n : Node). HasReachedNext q c.args.root c.args.key n c.in-Held.at (view q).own.updates_seen) (sym c.same_node-from.ensures)
     (reaches_next p q place c.args.root c.args.key c.args.before.now last.0 c.in-Held.ensures.pass.setup c.in-Held.ensures.answers seen last.1 c.requires.before home c.in-Held.at told.0 told.1 last.2 c.place_behind-place.ensures.else_ c.in-Held.ensures.keeps)
 
 pub returns-in-Null-clause-landing : goal.returns-in-Null-clause-landing
@@ -41,10 +42,10 @@ returns-in-Null-clause-landing g c =
     )
 
 pub returns-in-Null-clause-did : goal.returns-in-Null-clause-did
-returns-in-Null-clause-did g c = let f = c.args.guard.now in let h = c.hold.new.self in let place = c.place_behind-place.result in let e : Event = hopped place c.args.before.now 3 Null in (
+returns-in-Null-clause-did g c = let f = c.args.guard.now in let h = c.hold.new.self in let seen = (view h.caller.now.pass).own.updates_seen in let place = c.place_behind-place.result in let e : Event = hopped place c.args.before.now 3 Null seen in (
   e ∷ [],
-  subst (λ (n : Node). Hops c.args.key c.args.before.now (Found (Absent n None)) (e ∷ [])) (sym c.same_node-before.ensures) (ends place),
-  did_one f h e (subst (λ (n : Node). Did f (hopped place n 3 Null) h) c.same_node.ensures c.in-Null.ensures.did),
+  subst (λ (n : Node). Hops c.args.key c.args.before.now (Found (Absent n None)) (Some seen) (e ∷ [])) (sym c.same_node-before.ensures) (ends place seen),
+  did_one f h e (subst (λ (n : Node). Did f (hopped place n 3 Null seen) h) c.same_node.ensures c.in-Null.ensures.did),
 )
 
 -- the node is held still at the rank that it had
@@ -62,18 +63,18 @@ returns-in-Held-clause-landing g c =
 
 pub returns-in-Held-clause-did : goal.returns-in-Held-clause-did
 returns-in-Held-clause-did g c =
-    let f = c.args.guard.now in let h = c.hold.new.self in let place = c.place_behind-place.result in let at = c.in-Held.at in let did = c.look.ensures.did in
-    let e : Event = hopped place c.args.before.now 3 (Holds at) in
-    let looks = subst (λ (n : Node). Looks c.args.key n at c.look.result did.0) c.same_node-from.ensures did.1 in (
+    let f = c.args.guard.now in let h = c.hold.new.self in let seen = (view h.caller.now.pass).own.updates_seen in let place = c.place_behind-place.result in let at = c.in-Held.at in let did = c.look.ensures.did in
+    let e : Event = hopped place c.args.before.now 3 (Holds at) seen in
+    let looks = subst (λ (n : Node). Looks c.args.key n at seen c.look.result (shown_by (view c.look.new.guard.caller.now.pass) c.look.result) did.0) c.same_node-from.ensures did.1 in (
       e ∷ did.0,
-      reaches place at looks,
-      did_then f h c.look.new.guard (e ∷ []) did.0 c.in-Held.ensures.same_reference.1 (did_one f h e (subst (λ (n : Node). Did f (hopped place n 3 (Holds at)) h) c.same_node.ensures c.in-Held.ensures.did)) did.2,
+      reaches place at seen looks,
+      did_then f h c.look.new.guard (e ∷ []) did.0 c.in-Held.ensures.same_reference.1 (did_one f h e (subst (λ (n : Node). Did f (hopped place n 3 (Holds at) seen) h) c.same_node.ensures c.in-Held.ensures.did)) did.2,
     )
 
 pub returns-in-Marked-clause-did : goal.returns-in-Marked-clause-did
-returns-in-Marked-clause-did g c = let f = c.args.guard.now in let h = c.hold.new.self in let place = c.place_behind-place.result in let link = c.in-Marked.field-0 in let e : Event = hopped place c.args.before.now 3 (Marked link) in
-    (e ∷ [], meets_mark place link, did_one f h e (subst (λ (n : Node). Did f (hopped place n 3 (Marked link)) h) c.same_node.ensures c.in-Marked.ensures.did))
+returns-in-Marked-clause-did g c = let f = c.args.guard.now in let h = c.hold.new.self in let seen = (view h.caller.now.pass).own.updates_seen in let place = c.place_behind-place.result in let link = c.in-Marked.field-0 in let e : Event = hopped place c.args.before.now 3 (Marked link) seen in
+    (e ∷ [], meets_mark place link seen, did_one f h e (subst (λ (n : Node). Did f (hopped place n 3 (Marked link) seen) h) c.same_node.ensures c.in-Marked.ensures.did))
 
 pub returns-in-Moved-clause-did : goal.returns-in-Moved-clause-did
-returns-in-Moved-clause-did g c = let f = c.args.guard.now in let h = c.hold.new.self in let place = c.place_behind-place.result in let found = c.in-Moved.found in let e : Event = hopped place c.args.before.now 3 (Moved found) in
-    (e ∷ [], moves place found, did_one f h e (subst (λ (n : Node). Did f (hopped place n 3 (Moved found)) h) c.same_node.ensures c.in-Moved.ensures.did))
+returns-in-Moved-clause-did g c = let f = c.args.guard.now in let h = c.hold.new.self in let seen = (view h.caller.now.pass).own.updates_seen in let place = c.place_behind-place.result in let found = c.in-Moved.found in let e : Event = hopped place c.args.before.now 3 (Moved found) seen in
+    (e ∷ [], moves place found seen, did_one f h e (subst (λ (n : Node). Did f (hopped place n 3 (Moved found) seen) h) c.same_node.ensures c.in-Moved.ensures.did))

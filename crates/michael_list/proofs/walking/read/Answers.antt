@@ -26,7 +26,7 @@ link_told : (g : _) (c : goal.After-load_link-link g) → LoadedLink michael g.R
 link_told g c = subst (λ (h : Held). LoadedLink michael g.R.Cover.facts (view c.load_key-found.new.self.caller.now.pass) (from_place h.place h.target) 3 (is_first c.load_key-found.new.self.caller.now.pass) c.load_link-link.ensures.step.0 (view c.load_link-link.new.self.caller.now.pass)) c.same_held-2.ensures c.load_link-link.ensures.step.2
 
 -- what was reached is so after the first load
-after_key : (g : _) (c : goal.After-load_link-link g) → HasReachedNext c.load_key-found.new.self.caller.now.pass c.args.root c.args.key c.args.before.now c.args.at.now
+after_key : (g : _) (c : goal.After-load_link-link g) → HasReachedNext c.load_key-found.new.self.caller.now.pass c.args.root c.args.key c.args.before.now c.args.at.now (view c.args.guard.now.caller.now.pass).own.updates_seen
 after_key g c = reached_still c.args.guard.now.caller.now.pass c.load_key-found.new.self.caller.now.pass c.load_key-found.ensures.pass.setup c.args.root c.load_key-found.ensures.keeps c.load_key-found.ensures.answers c.args.key c.args.before.now c.args.at.now c.requires.reached
 
 -- and known by its key
@@ -54,13 +54,13 @@ pub returns-clause-clear : goal.returns-clause-clear
 returns-clause-clear g c = let link = c.load_link-link.ensures.step.1 in
     let p = c.load_key-found.new.self.caller.now.pass in let q = c.load_link-link.new.self.caller.now.pass in let at = c.args.at.now in let n = c.load_link-link.ensures.step.0 in
     let stands = (after_key g c).stands in
-    subst (λ (l : LinkParts). ¬ HasMark l → (l.flags ≡ 0) × IsLink l × (c.load_key-found.result ≡ c.args.key → HasSeenKey q c.args.key true)) (sym link) (λ clear. (
+    subst (λ (l : LinkParts). ¬ HasMark l → (l.flags ≡ 0) × IsLink l × (c.load_key-found.result ≡ c.args.key → HasSeenKey q c.args.key true (view q).own.updates_seen)) (sym link) (λ clear. (
       no_flag g.R.Cover.facts p q c.args.root at (is_first p) n stands (link_told g c) clear,
       in_range g.R.Cover.facts p q c.args.root at (is_first p) n stands (link_told g c),
       λ same. present_there g.R.Cover.facts p q c.args.root at (is_first p) n stands (link_told g c) c.args.key clear c.load_link-link.ensures.pass.setup c.load_link-link.ensures.answers c.load_link-link.ensures.keeps stands.there.started (key_rank g c ∙ ap (λ k. k + 1) same),
     ))
 
 pub returns-clause-did : goal.returns-clause-did
-returns-clause-did g c = did_loads c.args.guard.now c.load_key-found.new.self c.load_link-link.new.self c.args.at.now c.load_key-found.result c.load_link-link.result c.load_key-found.ensures.same_reference.1
+returns-clause-did g c = did_loads c.args.guard.now c.load_key-found.new.self c.load_link-link.new.self c.args.at.now c.load_key-found.result c.load_link-link.result (view c.load_link-link.new.self.caller.now.pass).own.updates_seen c.load_key-found.ensures.same_reference.1
     (subst (λ (h : Held). Did c.args.guard.now (keyed h.target c.load_key-found.result) c.load_key-found.new.self) c.same_held.ensures c.load_key-found.ensures.did)
-    (subst (λ (h : Held). Did c.load_key-found.new.self (looked (At h) 3 c.load_link-link.result) c.load_link-link.new.self) c.same_held-2.ensures c.load_link-link.ensures.did)
+    (subst (λ (h : Held). Did c.load_key-found.new.self (looked (At h) 3 c.load_link-link.result (view c.load_link-link.new.self.caller.now.pass).own.updates_seen) c.load_link-link.new.self) c.same_held-2.ensures c.load_link-link.ensures.did)
