@@ -18,7 +18,7 @@ use Rattle.record_rule.proofs.Lists.{counts_same, counts_more, counts_less}
 use Rattle.reclaim_api.specs.Frames.{rest_as, in_rest, is_as, had, LeavesRest, LeavesRestBut, LeavesRecords}
 use Rattle.record_pieces.specs.Manners.{Manner}
 use Rattle.record_pieces.specs.Hands.{is_in_hand, in_hand}
-use Rattle.record_pieces.specs.Events.{Event, gained, dropped, Does}
+use Rattle.record_pieces.specs.Events.{Event, gained, dropped, Acts, Does}
 use Rattle.record_pieces.specs.Trails.{Trail}
 
 -- no entry stands past the end
@@ -62,16 +62,16 @@ hand_left v w rest = hand_mine v.own w.own rest.mine
 pub hand_rest : (v w : View) → LeavesRest v w → in_hand w.own ≡ in_hand v.own
 hand_rest v w rest = hand_like v.own.mine w.own.mine (λ j. let place : j + 1 - 1 ≡ j = omega arith in subst (λ (k : ℕ). in_rest (get_or w.own.mine k None) ≡ in_rest (get_or v.own.mine k None)) place (rest.rest (j + 1)))
 
--- where a record changed
-module _ (b c : Book) (i : ℕ) (new : Option Share) (mine : c.mine ≡ set b.mine i new) (within : i < length b.mine) where
-  pub hand_same : is_as is_in_hand new ≡ is_as is_in_hand (get_or b.mine i None) → in_hand c ≡ in_hand b
-  hand_same same = ap (count_by (is_as is_in_hand)) mine ∙ counts_same (is_as is_in_hand) b.mine i new None within same
+-- where what is known of one record changed
+module _ (v w : View) (i : ℕ) (old new : Option Share) (was : share_in v i ≡ old) (mine : w.own.mine ≡ set v.own.mine (i - 1) new) (within : i - 1 < length v.own.mine) where
+  pub hand_same : is_as is_in_hand new ≡ is_as is_in_hand old → in_hand w.own ≡ in_hand v.own
+  hand_same same = ap (count_by (is_as is_in_hand)) mine ∙ counts_same (is_as is_in_hand) v.own.mine (i - 1) new None within (same ∙ sym (ap (is_as is_in_hand) was))
 
-  pub hand_more : is_as is_in_hand (get_or b.mine i None) ≡ false → is_as is_in_hand new ≡ true → in_hand c ≡ in_hand b + 1
-  hand_more was is = ap (count_by (is_as is_in_hand)) mine ∙ counts_more (is_as is_in_hand) b.mine i new None within was is
+  pub hand_more : is_as is_in_hand old ≡ false → is_as is_in_hand new ≡ true → in_hand w.own ≡ in_hand v.own + 1
+  hand_more before after = ap (count_by (is_as is_in_hand)) mine ∙ counts_more (is_as is_in_hand) v.own.mine (i - 1) new None within (ap (is_as is_in_hand) was ∙ before) after
 
-  pub hand_less : is_as is_in_hand (get_or b.mine i None) ≡ true → is_as is_in_hand new ≡ false → in_hand c + 1 ≡ in_hand b
-  hand_less was is = ap (λ l. count_by (is_as is_in_hand) l + 1) mine ∙ counts_less (is_as is_in_hand) b.mine i new None within was is
+  pub hand_less : is_as is_in_hand old ≡ true → is_as is_in_hand new ≡ false → in_hand w.own + 1 ≡ in_hand v.own
+  hand_less before after = ap (λ l. count_by (is_as is_in_hand) l + 1) mine ∙ counts_less (is_as is_in_hand) v.own.mine (i - 1) new None within (ap (is_as is_in_hand) was ∙ before) after
 
 -- where one that was taken out was retired
 pub hand_rest_but : (v w : View) (r : RefParts) (share : Share) → HasTaken v r share → LeavesRestBut r.index v w → in_hand w.own + 1 ≡ in_hand v.own
@@ -89,6 +89,10 @@ hand_rest_but v w r share taken rest = ap (λ (n : ℕ). n + 1) (hand_like witho
         by : Dec (j ≡ r.index - 1) → in_rest (get_or w.own.mine j None) ≡ in_rest (get_or without j None)
         by (yes e) = subst (λ (k : ℕ). in_rest (get_or w.own.mine k None) ≡ in_rest (get_or without k None)) (sym e) (rest.gone ∙ sym (ap in_rest (get_or-set_same v.own.mine (r.index - 1) None None within)))
         by (no ne) = rest.rest j ne ∙ sym (ap in_rest (get_or-set_other v.own.mine (r.index - 1) j None None ne))
+
+-- an event that leaves as many in hand
+pub does_still : {m : Manner} {k : Setup} {e : Event} {b c : Book} → gained e ≡ 0 → dropped e ≡ 0 → in_hand c ≡ in_hand b → Acts m k e b c → Does m k e b c
+does_still more fewer same acts = record { acts = acts; hand = omega (arith, more, fewer, same) }
 
 -- from so many records in hand these events lead to so many
 pub record Hands (n : ℕ) (es : List Event) (m : ℕ) : Type 0 where
