@@ -1,6 +1,5 @@
 -- A caller's counts after its calls.
-use Rattle.std.proofs.Common.{◌≡◌, ℕ, ◌+◌, ◌==◌, suc, zero, List, [], ◌∷◌, get_or, Bool, true, false, cond, Option, Some, None, sym, refl, ap, ◌∙◌, arith}
-use Rattle.std.specs.List.{count_by}
+use Rattle.std.proofs.Common.{◌≡◌, ℕ, ◌+◌, ◌==◌, get_or, Bool, true, false, cond, Option, Some, None, sym, refl, ap, ◌∙◌, arith}
 use Rattle.record_memory.specs.declared.books.Moves.{Moves}
 use Rattle.record_memory.specs.declared.books.Share.{Share}
 use Rattle.record_memory.specs.declared.books.Standing.{Standing}
@@ -10,7 +9,6 @@ use Rattle.row_words.specs.declared.links.Chain.{Chain}
 use Rattle.row_words.specs.declared.links.Freed.{Freed}
 use Rattle.record_rule.specs.Kinds.{moves_stored}
 use Rattle.record_rule.specs.Standings.{is_limbo, is_spent}
-use Rattle.record_rule.proofs.CountingPlaces.{bit, count_cons}
 use Rattle.reclaim_api.specs.Frames.{away_as, in_away, is_as, had, IsLimboLeft, FreesInto}
 use Rattle.record_pieces.proofs.Hands.{count_like}
 use Rattle.manager.specs.declared.types.Moved.{Moved}

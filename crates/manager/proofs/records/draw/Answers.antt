@@ -7,7 +7,6 @@ use Rattle.record_memory.specs.declared.books.View.{View}
 use Rattle.record_memory.specs.declared.books.Standing.TheVariants.{Own, Spare, Free}
 use Rattle.record_table.specs.Handles.{view}
 use Rattle.reclaim_api.proofs.Kept.{chain_stays}
-use Rattle.record_pieces.proofs.Hands.{hand_mine}
 use Rattle.manager.proofs.Stay.{inside_after, chains_after}
 use Rattle.manager.proofs.Drawing.{new_hand, draws_limbo, draws_stay, draws_idle, draws_makes}
 use Rattle.manager.proofs.Owns.{owns_stay}
