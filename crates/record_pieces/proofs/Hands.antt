@@ -102,7 +102,7 @@ pub hands_both : {n m o : ℕ} {es fs : List Event} → Hands n es m → Hands m
 hands_both {es = es} {fs = fs} first second = record { sums = omega (arith, first.sums, second.sums, sum_by-append gained es fs, sum_by-append dropped es fs) }
 
 -- what is in hand beside stays there
-pub hands_beside : {n m : ℕ} {es : List Event} (k : ℕ) → Hands n es m → Hands (n + k) es (m + k)
+pub hands_beside : {es : List Event} (k : ℕ) → Hands 0 es 0 → Hands k es k
 hands_beside k h = record { sums = omega (arith, h.sums) }
 
 -- and so they do with those of a book
