@@ -1,5 +1,5 @@
 -- The records that a caller has in hand, after a call of its reclaimer, after one of them changed, and after events.
-use Rattle.std.proofs.Common.{◌≡◌, ◌≢◌, ℕ, zero, suc, ◌+◌, ◌-◌, ◌<◌, length, get_or, set, get_or-set_same, get_or-set_other, List, [], ◌∷◌, ◌++◌, Bool, true, false, Option, Some, None, sym, refl, ap, ◌∙◌, subst, arith}
+use Rattle.std.proofs.Common.{◌≡◌, ℕ, zero, suc, ◌+◌, ◌-◌, ◌<◌, length, get_or, set, get_or-set_same, get_or-set_other, List, [], ◌∷◌, ◌++◌, Bool, true, false, Option, Some, None, sym, refl, ap, ◌∙◌, subst, arith}
 use Rattle.std.specs.List.{count_by, sum_by}
 use Rattle.std.proofs.lemmas.List.Sums.{sum_by-append, sum_by-cons}
 use native.Mathlib.Decide.{ℕ_discrete}
@@ -15,7 +15,7 @@ use Rattle.record_rule.specs.Links.{HasTaken}
 use Rattle.record_rule.proofs.CountingPlaces.{bit, count_cons}
 use Rattle.record_rule.proofs.HandingOut.{known_within}
 use Rattle.record_rule.proofs.Lists.{counts_same, counts_more, counts_less}
-use Rattle.reclaim_api.specs.Frames.{rest_as, in_rest, is_as, had, LeavesRest, LeavesRestBut, LeavesRecords}
+use Rattle.reclaim_api.specs.Frames.{rest_as, in_rest, is_as, LeavesRest, LeavesRestBut, LeavesRecords}
 use Rattle.record_pieces.specs.Manners.{Manner}
 use Rattle.record_pieces.specs.Hands.{is_in_hand, in_hand}
 use Rattle.record_pieces.specs.Events.{Event, gained, dropped, Acts, Does}
