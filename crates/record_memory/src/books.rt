@@ -168,8 +168,6 @@ pub struct Book {
     pub drawing: Drawing,
     /// The link words that it has locked.
     pub locks: LinkedList<Word>,
-    /// Whether it has the lock of the pool.
-    pub has_pool_lock: bool,
     /// Its calls that were answered Yes or No, in order.
     pub answered: LinkedList<Answered>,
     /// The call in progress, where others may decide it.

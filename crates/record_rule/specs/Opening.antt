@@ -42,7 +42,7 @@ no_moves = record { drawn = 0; reused = 0; retired = 0; freed = 0; births = 0 }
 
 -- the book of a caller that made no step, with the reclaimer's first guard
 abbrev pub first_book : Setup → Guard → ℕ → Book
-first_book setup first c = record { caller = c; steps = []; mine = replicate setup.records None; moves = no_moves; drawing = Unsure; locks = []; has_pool_lock = false; answered = []; offer = None; guard = first; notes = map blank_note first.holds; root_notes = []; updates_seen = 0 }
+first_book setup first c = record { caller = c; steps = []; mine = replicate setup.records None; moves = no_moves; drawing = Unsure; locks = []; answered = []; offer = None; guard = first; notes = map blank_note first.holds; root_notes = []; updates_seen = 0 }
 
 -- the books of n callers from c on
 abbrev pub first_books : Setup → Guard → ℕ → ℕ → List Book
