@@ -10,3 +10,4 @@ pub mod Drawing
 pub mod NeverFull
 pub mod Hands
 pub mod Counts
+pub mod Totals

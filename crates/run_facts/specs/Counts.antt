@@ -1,8 +1,10 @@
 -- What the moves of all callers come to once a table of sorted lists is closed, and where its records are.
 use Rattle.std.specs.Prelude.{◌≡◌, ℕ, ◌+◌, ◌-◌, List, map, count_by, sum_by}
+use Rattle.set_model.specs.declared.calls.Counts.{Counts}
 use Rattle.set_model.specs.Histories.{removals_in}
+use Rattle.record_memory.specs.declared.books.Book.{Book}
 use Rattle.row_words.specs.Refs.{RefParts}
-use Rattle.record_rule.specs.Counts.{drawn_by, reused_by, retired_by}
+use Rattle.record_rule.specs.Counts.{drawn_by, reused_by, retired_by, freed_by}
 use Rattle.record_rule.specs.Inputs.{shape_cell}
 use Rattle.record_rule.specs.PlaceCounts.{count_in, generation_in, is_from}
 use Rattle.record_rule.specs.Records.{Record}
@@ -41,3 +43,14 @@ pub record CountsFit (c : Closed) : Type 0 where
   pub retired : sum_by retired_by (closed_books c) + marked_in records ≡ removals_in (history_of c)
   -- each record that was drawn is linked, or in limbo, free, spare or spent of some caller
   pub places : sum_by (had is_limbo) (closed_books c) + sum_by (had is_free) (closed_books c) + sum_by (had is_spare) (closed_books c) + sum_by (had is_spent) (closed_books c) + linked_in records ≡ sum_by drawn_by (closed_books c)
+
+-- The counts of a run are the sums over all callers: none of them stood still at its type's end
+pub record AreSumsOf (n : Counts) (books : List Book) : Type 0 where
+  pub drawn : n.drawn ≡ sum_by drawn_by books
+  pub reused : n.reused ≡ sum_by reused_by books
+  pub retired : n.retired ≡ sum_by retired_by books
+  pub freed : n.freed ≡ sum_by freed_by books
+  pub limbo : n.limbo ≡ sum_by (had is_limbo) books
+  pub free : n.free ≡ sum_by (had is_free) books
+  pub spare : n.spare ≡ sum_by (had is_spare) books
+  pub spent : n.spent ≡ sum_by (had is_spent) books
