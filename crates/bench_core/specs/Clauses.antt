@@ -56,9 +56,7 @@ pub record LeaveEnough (words : List (List ℕ)) (run : Run) : Type 0 where
   pub named : IsCommand words command
   pub chosen : PlayWords
   pub chooses : choices_of command ≡ Some chosen
-  pub lists : List (List (List Call))
-  pub calls : calls_of run.report.callers ≡ joined lists
-  pub enough : HasEnough chosen lists
+  pub enough : HasEnough chosen (sum_by insertions_in (calls_of run.report.callers))
 
 -- the bytes were read to the end, and are a workload
 abbrev pub GaveSomeWorkload : {S : Type 0} → (S → Option (List ℕ)) → S → S → Type 0

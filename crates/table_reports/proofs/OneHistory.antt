@@ -27,7 +27,7 @@ use Rattle.set_runs.specs.Runs.{IsSetRun}
 use Rattle.workload_text.proofs.Held.{some_is}
 use Rattle.workload_text.specs.Limits.{calls_of_all, joined}
 use Rattle.table_reports.specs.History.{IsOneHistory}
-use Rattle.table_reports.proofs.Pairs.{all_paired, some_at}
+use Rattle.table_reports.proofs.Pairs.{all_paired}
 
 -- where nothing waits behind the history, it is the whole
 whole : (s : ShapeFacts) (closed : Closed) → (waiting : List _) → waiting ≡ []
@@ -45,12 +45,6 @@ own_calls lists callers same c p at =
     some_is (calls_of_all (phases_of lists c)) p.calls
     (sym (slice_get-map calls_of_all lists c ∙ ap (option_map calls_of_all) (slice_get-get_or lists c [] within)) ∙ there)
 
--- a run has a bound for each phase
-bound_each : {steps : Call → ℕ → Answer → Book → Book → Type 0} {budget : ℕ} {phases : List (List Call)} {replies : List Reply} {bounds : List ℕ} {u v : View} → Phases steps budget phases replies bounds u v → length bounds ≡ length phases
-bound_each Phases.none = refl
-bound_each (Phases.next {phases = phases} {calls = calls} {bounds = bounds} {bound = bound} earlier met turns) =
-    length-append bounds (bound ∷ []) ∙ ap (λ n. n + 1) (bound_each earlier) ∙ sym (length-append phases (calls ∷ []))
-
 pub one_history : (s : ShapeFacts) (r : CoverFacts) (steps : Setup → Call → ℕ → Answer → Book → Book → Type 0) (budget : ℕ) (setup : Setup) (lists : List (List (List Call))) (callers : List Played) (counts : Counts) (closed : Closed)
     → (run : IsSetRun s r steps budget setup lists (replies_to callers) counts closed) → calls_of callers ≡ joined lists → run.fits.waiting ≡ [] → IsOneHistory s lists callers closed
 one_history s r steps budget setup lists callers counts closed run same none =
@@ -63,9 +57,6 @@ one_history s r steps budget setup lists callers counts closed run same none =
       printed = λ c p b at there.
           sym (book_has_replies (run.each c p.replies b (told c p at) there) ∙ ap (λ calls. answered_among (with_replies calls p.replies)) (own_calls lists callers same c p at));
       bounds = run.bounds;
-      one_each = λ c p at.
-          let book = some_at (closed_books closed) c (omega (arith, slice_get_within callers c p at, run.all_books, run.all_replies, length-map callers (λ (q : Played). q.replies))) in
-          bound_each (run.each c p.replies book.0 (told c p at) book.1).played;
       phased = λ c p b at there. book_is_phased (run.each c p.replies b (told c p at) there);
       found = run.fits.found;
     }
