@@ -48,7 +48,7 @@ use Rattle.bench_core.specs.Sizes.{sizes_of}
 use Rattle.bench_core.specs.Ending.{AreNoCommand, Counts, Ends, Finds, FindsIn, FindsMade, GaveNoWorkload, GaveWorkload, HasParts, HasText, IsAllowed, IsMade, IsPlayed, NamesUnlawful, Reads, Tells, has_full, status_with, output_of, run_of, status_of, status_of_run}
 use Rattle.bench_core.specs.Plays.{AreAlone}
 use Rattle.bench_core.specs.Settings.{played_as}
-use Rattle.bench_core.specs.Tables.{IsHashRun, all_insertions}
+use Rattle.bench_core.specs.Tables.{HasEnough, IsHashRun, all_insertions}
 use Rattle.bench_core.proofs.Alone.{trial_alone}
 use Rattle.bench_core.proofs.Enough.{plain_enough}
 use Rattle.bench_core.proofs.NeverFull.{run-not_full}

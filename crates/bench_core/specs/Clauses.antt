@@ -1,5 +1,5 @@
 -- What the clauses of the whole program say of words, of what was read, and of statuses.
-use Rattle.std.specs.Prelude.{◌≡◌, ℕ, ◌⊎◌, List, Option, Some, None}
+use Rattle.std.specs.Prelude.{◌≡◌, ℕ, ◌⊎◌, List, Option, Some, None, sum_by}
 use Rattle.command_words.specs.Commands.{IsCommand}
 use Rattle.command_words.specs.declared.command.Command.{Command}
 use Rattle.command_words.specs.declared.command.Command.TheVariants as command
@@ -10,6 +10,7 @@ use Rattle.paired_replies.specs.Pairs.{calls_of}
 use Rattle.report_text.specs.ReportText.{report_text}
 use Rattle.report_text.specs.SummaryText.{summary_text}
 use Rattle.report_text.specs.declared.refusal.WorkloadRefusal.{WorkloadRefusal}
+use Rattle.set_model.specs.Machine.{insertions_in}
 use Rattle.set_model.specs.declared.calls.Call.{Call}
 use Rattle.workload_text.specs.Limits.{Plan, joined}
 use Rattle.workload_text.specs.Text.{IsTextOf}

@@ -1,13 +1,12 @@
 -- From a run on a table to the one history of which its report tells.
-use Rattle.std.proofs.Common.{◌≡◌, ℕ, ◌+◌, ◌<◌, List, [], ◌∷◌, ◌++◌, map, length, Some, slice_get, refl, sym, ap, ◌∙◌, subst, arith}
-use Rattle.std.proofs.lemmas.List.{append-nil, length-append, length-map}
+use Rattle.std.proofs.Common.{◌≡◌, ℕ, ◌<◌, List, [], ◌++◌, map, length, Some, slice_get, sym, ap, ◌∙◌, subst, arith}
+use Rattle.std.proofs.lemmas.List.{append-nil, length-map}
 use Rattle.std.proofs.lemmas.Option.{slice_get-get_or, slice_get-map, slice_get_within}
 use Rattle.std.specs.Option.{option_map}
 use Rattle.key_sums.specs.Balances.{answered_among}
 use Rattle.paired_replies.specs.Pairs.{calls_of, replies_to}
 use Rattle.record_memory.specs.declared.books.Book.{Book}
 use Rattle.record_memory.specs.declared.books.Setup.{Setup}
-use Rattle.record_memory.specs.declared.books.View.{View}
 use Rattle.record_rule.specs.Facts.{ShapeFacts, CoverFacts}
 use Rattle.record_rule.specs.Histories.{HistoryFits}
 use Rattle.record_rule.specs.Inputs.{answered_of, offer_of}
@@ -18,10 +17,8 @@ use Rattle.run_facts.proofs.Answers.{book_has_replies}
 use Rattle.run_facts.proofs.Phased.{book_is_phased}
 use Rattle.run_facts.specs.Replies.{with_replies}
 use Rattle.set_api.specs.declared.answer.Answer.{Answer}
-use Rattle.set_api.specs.Turns.{Phases}
 use Rattle.set_model.specs.declared.calls.Call.{Call}
 use Rattle.set_model.specs.declared.calls.Counts.{Counts}
-use Rattle.set_model.specs.declared.calls.Reply.{Reply}
 use Rattle.set_runs.specs.Playing.{phases_of}
 use Rattle.set_runs.specs.Runs.{IsSetRun}
 use Rattle.workload_text.proofs.Held.{some_is}
