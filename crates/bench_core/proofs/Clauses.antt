@@ -48,9 +48,9 @@ use Rattle.bench_core.specs.Sizes.{sizes_of}
 use Rattle.bench_core.specs.Ending.{AreNoCommand, Counts, Ends, Finds, FindsIn, FindsMade, GaveNoWorkload, GaveWorkload, HasParts, HasText, IsAllowed, IsMade, IsPlayed, NamesUnlawful, Reads, Tells, has_full, status_with, output_of, run_of, status_of, status_of_run}
 use Rattle.bench_core.specs.Plays.{AreAlone}
 use Rattle.bench_core.specs.Settings.{played_as}
-use Rattle.bench_core.specs.Tables.{IsHashRun, all_insertions}
+use Rattle.bench_core.specs.Tables.{HasEnough, IsHashRun, all_insertions}
 use Rattle.bench_core.proofs.Alone.{trial_alone}
-use Rattle.bench_core.proofs.Enough.{same_enough}
+use Rattle.bench_core.proofs.Enough.{plain_enough}
 use Rattle.bench_core.proofs.NeverFull.{run-not_full}
 use Rattle.bench_core.proofs.PlayedPairs.{frees_none, has_table, on_table}
 use Rattle.bench_core.proofs.Telling.{status_of_run-is}
@@ -372,8 +372,15 @@ module _ {S K : Type 0} {left : S → Option (List ℕ)} {source_faults : S → 
   pub never_full : (r : Run) → ended.run ≡ Some r → LeaveEnough words r → has_full r.report.callers ≡ false
   never_full r is leave =
       let p = as_chosen r is leave.command leave.named leave.chosen leave.chooses in
-      let same : all_insertions leave.lists ≡ all_insertions p.0.lists = ap (λ (calls : List (List Call)). sum_by insertions_in calls) (sym leave.calls ∙ p.1) in
-      run-not_full leave.chosen.set leave.chosen.reclaimer leave.chosen p.0 r p.2 (same_enough leave.chosen leave.lists p.0.lists same leave.enough)
+      run-not_full leave.chosen.set leave.chosen.reclaimer leave.chosen p.0 r p.2 (subst (λ (calls : List (List Call)). HasEnough leave.chosen (sum_by insertions_in calls)) p.1 leave.enough)
+
+  pub plain_never_full : (r : Run) → ended.run ≡ Some r → r.report.set ≡ Plain → has_full r.report.callers ≡ false
+  plain_never_full r is plain = elim (run r is).2 [
+    | inl play ↦ run-not_full play.chosen.set play.chosen.reclaimer play.chosen play.plan r play.played.played (plain_enough play.chosen (all_insertions play.plan.lists) (sym play.played.set_is ∙ plain))
+    | inr trial ↦
+        let words = played_as trial.chosen in
+        run-not_full words.set words.reclaimer words trial.plan r trial.played.played (plain_enough words (all_insertions trial.plan.lists) (sym trial.played.set_is ∙ plain))
+  ]
 
   five_found : (found : Verdict) → status_of found ≡ 5 → (run : Run) × (run_of found ≡ Some run) × (has_full run.report.callers ≡ true)
   five_found verdict.WordsRefused is = absurd (omega arith)

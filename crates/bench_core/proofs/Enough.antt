@@ -7,7 +7,7 @@ use Rattle.set_model.specs.declared.names.SetName.{SetName}
 use Rattle.set_model.specs.declared.names.SetName.TheVariants.{Plain, Michael, Lazy}
 use Rattle.command_words.specs.declared.command.PlayWords.{PlayWords}
 use Rattle.workload_text.specs.Limits.{Plan, IsWorkload}
-use Rattle.bench_core.specs.Tables.{HasEnough, all_insertions, needed, records_chosen, records_for, roots_in}
+use Rattle.bench_core.specs.Tables.{HasEnough, all_insertions, needed, needed_for, records_chosen, records_for, roots_in}
 use Rattle.bench_core.proofs.PlayOrder.{insertions-few}
 
 chosen_enough : (chosen : Option ℕ) (need : ℕ) → need ≤ 1048575 → IfSome chosen (λ records. need ≤ records) → need ≤ records_chosen chosen need
@@ -15,17 +15,15 @@ chosen_enough (Some records) need few enough = enough
 chosen_enough None need few enough = omega (arith, min-eq_left few)
 
 -- each bucket and each insertion has one
-pub enough_records : (chosen : PlayWords) (plan : Plan) → chosen.set ≡ Michael → chosen.buckets ≤ 4096 → IsWorkload plan → HasEnough chosen plan.lists → chosen.buckets + all_insertions plan.lists ≤ records_for chosen plan.lists
+pub enough_records : (chosen : PlayWords) (plan : Plan) → chosen.set ≡ Michael → chosen.buckets ≤ 4096 → IsWorkload plan → HasEnough chosen (all_insertions plan.lists) → chosen.buckets + all_insertions plan.lists ≤ records_for chosen (all_insertions plan.lists)
 enough_records chosen plan hash few limits enough =
-    let need : needed chosen.set (roots_in chosen.set chosen.buckets) plan.lists ≡ chosen.buckets + all_insertions plan.lists = ap (λ (s : SetName). needed s (roots_in s chosen.buckets) plan.lists) hash in
-    omega (arith, need, chosen_enough chosen.records (needed chosen.set (roots_in chosen.set chosen.buckets) plan.lists) (omega (arith, need, few, insertions-few plan limits)) enough)
+    let insertions = all_insertions plan.lists in
+    let need : needed_for chosen insertions ≡ chosen.buckets + insertions = ap (λ (s : SetName). needed s (roots_in s chosen.buckets) insertions) hash in
+    omega (arith, need, chosen_enough chosen.records (needed_for chosen insertions) (omega (arith, need, few, insertions-few plan limits)) enough)
 
--- as many are needed for lists with as many insertions
-same_needed : (set : SetName) (roots : ℕ) (lists others : List (List (List Call))) → all_insertions lists ≡ all_insertions others → needed set roots lists ≡ needed set roots others
-same_needed Plain roots lists others same = refl
-same_needed Michael roots lists others same = ap (λ n. roots + n) same
-same_needed Lazy roots lists others same = ap (λ n. roots + n) same
-
-pub same_enough : (chosen : PlayWords) (lists others : List (List (List Call))) → all_insertions lists ≡ all_insertions others → HasEnough chosen lists → HasEnough chosen others
-same_enough chosen lists others same enough =
-    subst (λ need. IfSome chosen.records (λ records. need ≤ records)) (same_needed chosen.set (roots_in chosen.set chosen.buckets) lists others same) enough
+-- a plain set needs none
+pub plain_enough : (chosen : PlayWords) (insertions : ℕ) → chosen.set ≡ Plain → HasEnough chosen insertions
+plain_enough chosen insertions plain = none_needed chosen.records where
+  none_needed : (records : Option ℕ) → IfSome records (λ n. needed_for chosen insertions ≤ n)
+  none_needed None = tt
+  none_needed (Some n) = rw plain (omega arith)

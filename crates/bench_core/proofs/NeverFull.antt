@@ -20,7 +20,7 @@ use Rattle.bench_core.specs.declared.ending.Run.{Run}
 use Rattle.bench_core.specs.Ending.{IsPlayed, any_full, has_full}
 use Rattle.bench_core.proofs.PlayedPairs.{by_pair}
 use Rattle.bench_core.specs.Plays.{IsPlainRun, Piece, order_of, told_to}
-use Rattle.bench_core.specs.Tables.{HasEnough}
+use Rattle.bench_core.specs.Tables.{HasEnough, all_insertions}
 
 any_full-append : (xs ys : List Reply) → any_full xs ≡ false → any_full ys ≡ false → any_full (xs ++ ys) ≡ false
 any_full-append [] ys first second = second
@@ -71,7 +71,7 @@ none_told [] none = refl
 none_told (played ∷ callers) none = rw (own_told played.replies (recursion_from_All (λ (reply : Reply). reply ≢ Full) played.replies none.0)) (none_told callers none.1)
 
 -- no call is answered full where the records are enough
-pub run-not_full : (set : SetName) (reclaimer : ReclaimerName) (chosen : PlayWords) (plan : Plan) (run : Run) → IsPlayed set reclaimer chosen plan run → HasEnough chosen plan.lists → has_full run.report.callers ≡ false
+pub run-not_full : (set : SetName) (reclaimer : ReclaimerName) (chosen : PlayWords) (plan : Plan) (run : Run) → IsPlayed set reclaimer chosen plan run → HasEnough chosen (all_insertions plan.lists) → has_full run.report.callers ≡ false
 run-not_full set reclaimer chosen plan run played enough = by_pair (has_full run.report.callers ≡ false) set reclaimer chosen plan run played
     (λ own none told. plain-not_full plan run.report told)
     (λ hash closed there told. none_told run.report.callers (recursion_from_All NoneIsFull (replies_to run.report.callers) (told.enough enough)))

@@ -1,5 +1,5 @@
 -- What the clauses of the whole program say of words, of what was read, and of statuses.
-use Rattle.std.specs.Prelude.{◌≡◌, ℕ, ◌⊎◌, List, Option, Some, None}
+use Rattle.std.specs.Prelude.{◌≡◌, ℕ, ◌⊎◌, List, Option, Some, None, sum_by}
 use Rattle.command_words.specs.Commands.{IsCommand}
 use Rattle.command_words.specs.declared.command.Command.{Command}
 use Rattle.command_words.specs.declared.command.Command.TheVariants as command
@@ -10,6 +10,7 @@ use Rattle.paired_replies.specs.Pairs.{calls_of}
 use Rattle.report_text.specs.ReportText.{report_text}
 use Rattle.report_text.specs.SummaryText.{summary_text}
 use Rattle.report_text.specs.declared.refusal.WorkloadRefusal.{WorkloadRefusal}
+use Rattle.set_model.specs.Machine.{insertions_in}
 use Rattle.set_model.specs.declared.calls.Call.{Call}
 use Rattle.workload_text.specs.Limits.{Plan, joined}
 use Rattle.workload_text.specs.Text.{IsTextOf}
@@ -56,9 +57,7 @@ pub record LeaveEnough (words : List (List ℕ)) (run : Run) : Type 0 where
   pub named : IsCommand words command
   pub chosen : PlayWords
   pub chooses : choices_of command ≡ Some chosen
-  pub lists : List (List (List Call))
-  pub calls : calls_of run.report.callers ≡ joined lists
-  pub enough : HasEnough chosen lists
+  pub enough : HasEnough chosen (sum_by insertions_in (calls_of run.report.callers))
 
 -- the bytes were read to the end, and are a workload
 abbrev pub GaveSomeWorkload : {S : Type 0} → (S → Option (List ℕ)) → S → S → Type 0

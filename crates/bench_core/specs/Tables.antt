@@ -30,35 +30,39 @@ roots_in Plain buckets = 0
 roots_in Michael buckets = buckets
 roots_in Lazy buckets = 1
 
--- how many records a workload may use on a set with so many roots; a plain set has none
-abbrev pub needed : SetName → ℕ → List (List (List Call)) → ℕ
-needed Plain roots lists = 0
-needed Michael roots lists = roots + all_insertions lists
-needed Lazy roots lists = roots + all_insertions lists
+-- how many records so many insertions may use on a set with so many roots; a plain set has none
+abbrev pub needed : SetName → ℕ → ℕ → ℕ
+needed Plain roots insertions = 0
+needed Michael roots insertions = roots + insertions
+needed Lazy roots insertions = roots + insertions
+
+-- the same on the set that the words choose
+abbrev pub needed_for : PlayWords → ℕ → ℕ
+needed_for chosen insertions = needed chosen.set (roots_in chosen.set chosen.buckets) insertions
 
 -- how many records the table has: as many as the words choose, or as are needed, up to the most there may be
 abbrev pub records_chosen : Option ℕ → ℕ → ℕ
 records_chosen (Some records) need = records
 records_chosen None need = min need 1048575
 
-abbrev pub records_for : PlayWords → List (List (List Call)) → ℕ
-records_for chosen lists = records_chosen chosen.records (needed chosen.set (roots_in chosen.set chosen.buckets) lists)
+abbrev pub records_for : PlayWords → ℕ → ℕ
+records_for chosen insertions = records_chosen chosen.records (needed_for chosen insertions)
 
--- the words choose as many records as are needed, or leave it to the program how many there are
-abbrev pub HasEnough : PlayWords → List (List (List Call)) → Type 0
-HasEnough chosen lists = IfSome chosen.records (λ records. needed chosen.set (roots_in chosen.set chosen.buckets) lists ≤ records)
+-- the words choose as many records as so many insertions may use, or leave it to the program how many there are
+abbrev pub HasEnough : PlayWords → ℕ → Type 0
+HasEnough chosen insertions = IfSome chosen.records (λ records. needed_for chosen insertions ≤ records)
 
 -- The callers played these lists on a hash table without reclamation, which they closed. The counts are those of that
 -- run, the replies are those of the closed table's one history, and so are the number of keys and their sum, which are
 -- also what the replies add up to.
 pub record IsHashRun (chosen : PlayWords) (lists : List (List (List Call))) (report : Report) (closed : Closed) : Type 0 where
-  pub played : IsNoneRun (records_for chosen lists) chosen.buckets lists (replies_to report.callers) report.counts closed
+  pub played : IsNoneRun (records_for chosen (all_insertions lists)) chosen.buckets lists (replies_to report.callers) report.counts closed
   pub history : IsOneHistory michael lists report.callers closed
   pub keys : TellsKeys closed report
   pub adds_up : RepliesAddUp report
   -- a reply `full` has its cause
-  pub caused : AreCaused (MakesPiece none_manner (none_setup (records_for chosen lists) chosen.buckets (length lists))) (hops_for (records_for chosen lists))
-      (none_setup (records_for chosen lists) chosen.buckets (length lists)) none.first lists (replies_to report.callers) played.bounds (closed_books closed)
+  pub caused : AreCaused (MakesPiece none_manner (none_setup (records_for chosen (all_insertions lists)) chosen.buckets (length lists))) (hops_for (records_for chosen (all_insertions lists)))
+      (none_setup (records_for chosen (all_insertions lists)) chosen.buckets (length lists)) none.first lists (replies_to report.callers) played.bounds (closed_books closed)
   -- and where the records are enough, none is there
-  pub enough : HasEnough chosen lists → All NoneIsFull (replies_to report.callers)
+  pub enough : HasEnough chosen (all_insertions lists) → All NoneIsFull (replies_to report.callers)
   pub unreclaimed : IsUnreclaimed report.counts

@@ -4,7 +4,7 @@ ghost use Rattle.set_model.specs.declared.names.ReclaimerName.TheVariants.{Nothi
 ghost use Rattle.set_model.specs.declared.names.SetName.TheVariants.{Michael};
 ghost use Rattle.bench_core.specs.Ending.{IsRun};
 ghost use Rattle.bench_core.specs.Settings.{ArePlayable, AreSettings};
-ghost use Rattle.bench_core.specs.Tables.{needed, records_for, roots_in};
+ghost use Rattle.bench_core.specs.Tables.{all_insertions, needed, records_for, roots_in};
 
 use crate::ending::Run;
 use crate::playing::insertions_of;
@@ -38,7 +38,7 @@ fn roots_in(set: SetName, buckets: u32) -> u32
 
 /// How many records the workload may use on this set with so many roots.
 fn needed(set: SetName, roots: u32, workload: &Workload) -> u64
-    ensures { result ≡ needed set roots workload.now.lists }
+    ensures { result ≡ needed set roots (all_insertions workload.now.lists) }
 {
     match set {
         SetName::Plain => 0,
@@ -50,7 +50,7 @@ fn needed(set: SetName, roots: u32, workload: &Workload) -> u64
 /// insertion, 1,004,096 at most.
 pub fn need(workload: &Workload, settings: &Settings) -> u64
     requires { AreSettings settings.now }
-    ensures { result ≡ needed settings.now.pair.set (roots_in settings.now.pair.set settings.now.buckets) workload.now.lists }
+    ensures { result ≡ needed settings.now.pair.set (roots_in settings.now.pair.set settings.now.buckets) (all_insertions workload.now.lists) }
 {
     let set = settings.pair.set;
     needed(set, roots_in(set, settings.buckets), workload)
@@ -59,7 +59,7 @@ pub fn need(workload: &Workload, settings: &Settings) -> u64
 /// How many records the table has on which the workload is played.
 fn records_for(chosen: PlayWords, workload: &Workload) -> u32
     requires { ArePlayable chosen }
-    ensures { result ≡ records_for chosen workload.now.lists }
+    ensures { result ≡ records_for chosen (all_insertions workload.now.lists) }
 {
     match chosen.records {
         Some(records) => records,

@@ -109,6 +109,7 @@ pub fn setbench<T: Threads + Wait + Sync, S: Source, K: Sink, G: Gate + Sync>(
     // No call is answered full where the words leave it to the program how many records there are, or choose one for each
     // root and each insertion. A plain set needs none.
     ensures never_full { (run : Run) → result.run ≡ Some run → LeaveEnough (texts_of words.now) run → has_full run.report.callers ≡ false }
+    ensures plain_never_full { (run : Run) → result.run ≡ Some run → run.report.set ≡ Plain → has_full run.report.callers ≡ false }
 
     // What is written where no run is told of: the line of a refusal, that of `check`, or a workload's text.
     ensures words_line { result.status ≡ 2 → Wrote K.got sink.old sink.new (refusal_text refusal.Words) }

@@ -1,9 +1,7 @@
 // A source that fails, and a sink that fails while the report of a run is printed.
 
-use crate::program::{Faults, run_failing, run_on};
+use crate::program::{Faults, WORDS, run_failing, run_on};
 use std::test::Fail;
-
-const WORDS: &str = "play --set michael --reclaimer none";
 
 const TEXT: &str =
     "setbench 1\ncallers 2\ncaller 0\ni 2\ns 2\nr 2\ni 4\ncaller 1\ni 3\nr 5\ns 3\nend\n";

@@ -7,6 +7,9 @@ use std::sync::Wait;
 use std::test::Fail;
 use std::thread::Threads;
 
+/// A play on the hash table, with as many records as its workload needs.
+pub const WORDS: &str = "play --set michael --reclaimer none";
+
 /// How a run ended, and what its sink got.
 #[derive(Drop)]
 pub struct Outcome {

@@ -1,11 +1,9 @@
 // Callers run at the same time, in each phase, and no phase begins before the one ahead of it has ended.
 
-use crate::program::run_with;
+use crate::program::{WORDS, run_with};
 use outside::{Gate, MeetGate};
 use std::sync::atomic::{AtomicBool, AtomicU32, Ordering};
 use std::test::Fail;
-
-const WORDS: &str = "play --set michael --reclaimer none";
 
 const TWO: &str = "setbench 1\ncallers 2\ncaller 0\ni 1\ncaller 1\ni 2\ns 2\nend\n";
 

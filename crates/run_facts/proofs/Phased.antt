@@ -132,7 +132,6 @@ fewer_before phases replies p =
 
 -- what holds at the end of so many phases
 record Parted (phases : List (List Call)) (replies : List Reply) (bounds : List ℕ) (v : View) : Type 0 where
-  bounds_long : length bounds ≡ length phases
   within : (p bound : ℕ) → At bounds p bound → bound ≤ length v.front
   lies : (n : ℕ) (a : Answered) → At v.own.answered n a → after a ≤ length v.front
   replies_long : length replies ≡ length (calls_of_all phases)
@@ -144,12 +143,11 @@ parted_next : (phases : List (List Call)) (calls : List Call) (before_it replies
     → length (before_it ++ replies) ≡ length (calls_of_all (phases ++ calls ∷ [])) → length x.own.answered ≡ length (answered_among (with_replies (calls_of_all (phases ++ calls ∷ [])) (before_it ++ replies)))
     → Parted (phases ++ calls ∷ []) (before_it ++ replies) (bounds ++ bound ∷ []) x
 parted_next phases calls before_it replies bounds bound v w x h met grown long counted = record {
-  bounds_long = omega (arith, length-append bounds (bound ∷ []), length-append phases (calls ∷ []), h.bounds_long);
   within = λ p b at. ⊎_elim (λ e. omega (arith, h.within p b e, front, grown.longer)) (λ e. omega (arith, get_at (bound ∷ []) e.0 b bound e.2, single e.0 b e.2, met.behind, grown.longer)) (at_append bounds (bound ∷ []) p b at);
   lies = λ n a at. ⊎_elim (λ e. omega (arith, h.lies n a e, front, grown.longer)) (λ e. (grown.placed e.0 a e.2).1) (at_append v.own.answered grown.more n a (subst (λ l. At l n a) answered at));
   replies_long = long;
   counted = counted;
-  phased = record { earlier = earlier; later = later };
+  phased = record { one_each = omega (arith, length-append bounds (bound ∷ []), length-append phases (calls ∷ []), h.phased.one_each); earlier = earlier; later = later };
 } where
   front : length v.front ≤ length w.front
   front = shorter w.front v.front met.own
@@ -174,14 +172,14 @@ parted_next phases calls before_it replies bounds bound v w x h met grown long c
   earlier p b n a at here less = ⊎_elim old new (at_append bounds (bound ∷ []) p b at) where
     old : At bounds p b → after a ≤ b
     old e =
-        let few = subst (λ k. p < k) h.bounds_long (below_at bounds p b e) in
+        let few = subst (λ k. p < k) h.phased.one_each (below_at bounds p b e) in
         let less_before : n < answered_before phases before_it p = subst (λ k. n < k) (same_before p (omega (arith, few))) less in
         ⊎_elim (λ there. h.phased.earlier p b n a e there less_before) (λ there. absurd (omega (arith, there.1, less_before, fewer_before phases before_it p, h.counted))) (at_append v.own.answered grown.more n a (subst (λ l. At l n a) answered here))
 
     new : (q : ℕ) × (p ≡ length bounds + q) × At (bound ∷ []) q b → after a ≤ b
     new e =
         let q : e.0 ≡ 0 = omega (arith, below_at (bound ∷ []) e.0 b e.2) in
-        let place : p ≡ length phases = omega (arith, e.1, q, h.bounds_long) in
+        let place : p ≡ length phases = omega (arith, e.1, q, h.phased.one_each) in
         let less_before : n < length v.own.answered = subst (λ k. n < k) (ap (answered_before (phases ++ calls ∷ []) (before_it ++ replies)) place ∙ same_before (length phases) (omega arith) ∙ all_before) less in
         ⊎_elim (λ there. omega (arith, h.lies n a there, met.before, single e.0 b e.2)) (λ there. absurd (omega (arith, there.1, less_before))) (at_append v.own.answered grown.more n a (subst (λ l. At l n a) answered here))
 
@@ -189,14 +187,14 @@ parted_next phases calls before_it replies bounds bound v w x h met grown long c
   later p b n a at here more = ⊎_elim old new (at_append bounds (bound ∷ []) p b at) where
     old : At bounds p b → b ≤ before a
     old e =
-        let few = subst (λ k. p < k) h.bounds_long (below_at bounds p b e) in
+        let few = subst (λ k. p < k) h.phased.one_each (below_at bounds p b e) in
         let more_before : answered_before phases before_it p ≤ n = subst (λ k. k ≤ n) (same_before p (omega (arith, few))) more in
         ⊎_elim (λ there. h.phased.later p b n a e there more_before) (λ there. omega (arith, h.within p b e, front, (grown.placed there.0 a there.2).0)) (at_append v.own.answered grown.more n a (subst (λ l. At l n a) answered here))
 
     new : (q : ℕ) × (p ≡ length bounds + q) × At (bound ∷ []) q b → b ≤ before a
     new e =
         let q : e.0 ≡ 0 = omega (arith, below_at (bound ∷ []) e.0 b e.2) in
-        let place : p ≡ length phases = omega (arith, e.1, q, h.bounds_long) in
+        let place : p ≡ length phases = omega (arith, e.1, q, h.phased.one_each) in
         let more_before : length v.own.answered ≤ n = subst (λ k. k ≤ n) (ap (answered_before (phases ++ calls ∷ []) (before_it ++ replies)) place ∙ same_before (length phases) (omega arith) ∙ all_before) more in
         ⊎_elim (λ there. absurd (omega (arith, below_at v.own.answered n a there, more_before))) (λ there. omega (arith, (grown.placed there.0 a there.2).0, met.behind, single e.0 b e.2)) (at_append v.own.answered grown.more n a (subst (λ l. At l n a) answered here))
 
@@ -206,12 +204,11 @@ module _ {steps : Call → ℕ → Answer → Book → Book → Type 0} {budget 
 
   parted : {phases : List (List Call)} {replies : List Reply} {bounds : List ℕ} {u v : View} → Phases steps budget phases replies bounds u v → u.own.answered ≡ [] → Parted phases replies bounds v
   parted {v = v} Phases.none none = record {
-    bounds_long = refl;
     within = λ p bound at. absurd (omega (arith, below_at [] p bound at));
     lies = λ n a at. absurd (omega (arith, below_at v.own.answered n a at, ap length none));
     replies_long = refl;
     counted = ap length none;
-    phased = record { earlier = λ p bound n a at. absurd (omega (arith, below_at [] p bound at)); later = λ p bound n a at. absurd (omega (arith, below_at [] p bound at)) };
+    phased = record { one_each = refl; earlier = λ p bound n a at. absurd (omega (arith, below_at [] p bound at)); later = λ p bound n a at. absurd (omega (arith, below_at [] p bound at)) };
   }
   parted {u = u} (Phases.next {phases = phases} {calls = calls} {before = before_it} {replies = replies} {bounds = bounds} {v = v} {w = w} {x = x} {bound = bound} earlier met turns) none =
       let whole = Phases.next earlier met turns in

@@ -1,5 +1,5 @@
 -- How the calls of each phase lie in the history.
-use Rattle.std.specs.Prelude.{ℕ, ◌<◌, ◌≤◌, List, take, length}
+use Rattle.std.specs.Prelude.{◌≡◌, ℕ, ◌<◌, ◌≤◌, List, take, length}
 use Rattle.set_model.specs.declared.calls.Call.{Call}
 use Rattle.set_model.specs.declared.calls.Reply.{Reply}
 use Rattle.record_memory.specs.declared.books.Answered.{Answered}
@@ -14,7 +14,8 @@ use Rattle.run_facts.specs.Replies.{with_replies}
 abbrev pub answered_before : List (List Call) → List Reply → ℕ → ℕ
 answered_before phases replies p = length (answered_among (with_replies (calls_of_all (take p phases)) replies))
 
--- The bound of a phase parts the history: the calls of earlier phases come before it, and those of this one and of later ones behind it
+-- Each phase has a bound, which parts the history: the calls of earlier phases come before it, and those of this one and of later ones behind it
 pub record ArePhased (phases : List (List Call)) (replies : List Reply) (bounds : List ℕ) (book : Book) : Type 0 where
+  pub one_each : length bounds ≡ length phases
   pub earlier : (p bound n : ℕ) (a : Answered) → At bounds p bound → At book.answered n a → n < answered_before phases replies p → after a ≤ bound
   pub later : (p bound n : ℕ) (a : Answered) → At bounds p bound → At book.answered n a → answered_before phases replies p ≤ n → bound ≤ before a

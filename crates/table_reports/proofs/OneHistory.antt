@@ -1,13 +1,12 @@
 -- From a run on a table to the one history of which its report tells.
-use Rattle.std.proofs.Common.{◌≡◌, ℕ, ◌+◌, ◌<◌, List, [], ◌∷◌, ◌++◌, map, length, Some, slice_get, refl, sym, ap, ◌∙◌, subst, arith}
-use Rattle.std.proofs.lemmas.List.{append-nil, length-append, length-map}
+use Rattle.std.proofs.Common.{◌≡◌, ℕ, ◌<◌, List, [], ◌++◌, map, length, Some, slice_get, sym, ap, ◌∙◌, subst, arith}
+use Rattle.std.proofs.lemmas.List.{append-nil, length-map}
 use Rattle.std.proofs.lemmas.Option.{slice_get-get_or, slice_get-map, slice_get_within}
 use Rattle.std.specs.Option.{option_map}
 use Rattle.key_sums.specs.Balances.{answered_among}
 use Rattle.paired_replies.specs.Pairs.{calls_of, replies_to}
 use Rattle.record_memory.specs.declared.books.Book.{Book}
 use Rattle.record_memory.specs.declared.books.Setup.{Setup}
-use Rattle.record_memory.specs.declared.books.View.{View}
 use Rattle.record_rule.specs.Facts.{ShapeFacts, CoverFacts}
 use Rattle.record_rule.specs.Histories.{HistoryFits}
 use Rattle.record_rule.specs.Inputs.{answered_of, offer_of}
@@ -18,16 +17,14 @@ use Rattle.run_facts.proofs.Answers.{book_has_replies}
 use Rattle.run_facts.proofs.Phased.{book_is_phased}
 use Rattle.run_facts.specs.Replies.{with_replies}
 use Rattle.set_api.specs.declared.answer.Answer.{Answer}
-use Rattle.set_api.specs.Turns.{Phases}
 use Rattle.set_model.specs.declared.calls.Call.{Call}
 use Rattle.set_model.specs.declared.calls.Counts.{Counts}
-use Rattle.set_model.specs.declared.calls.Reply.{Reply}
 use Rattle.set_runs.specs.Playing.{phases_of}
 use Rattle.set_runs.specs.Runs.{IsSetRun}
 use Rattle.workload_text.proofs.Held.{some_is}
 use Rattle.workload_text.specs.Limits.{calls_of_all, joined}
 use Rattle.table_reports.specs.History.{IsOneHistory}
-use Rattle.table_reports.proofs.Pairs.{all_paired, some_at}
+use Rattle.table_reports.proofs.Pairs.{all_paired}
 
 -- where nothing waits behind the history, it is the whole
 whole : (s : ShapeFacts) (closed : Closed) → (waiting : List _) → waiting ≡ []
@@ -45,12 +42,6 @@ own_calls lists callers same c p at =
     some_is (calls_of_all (phases_of lists c)) p.calls
     (sym (slice_get-map calls_of_all lists c ∙ ap (option_map calls_of_all) (slice_get-get_or lists c [] within)) ∙ there)
 
--- a run has a bound for each phase
-bound_each : {steps : Call → ℕ → Answer → Book → Book → Type 0} {budget : ℕ} {phases : List (List Call)} {replies : List Reply} {bounds : List ℕ} {u v : View} → Phases steps budget phases replies bounds u v → length bounds ≡ length phases
-bound_each Phases.none = refl
-bound_each (Phases.next {phases = phases} {calls = calls} {bounds = bounds} {bound = bound} earlier met turns) =
-    length-append bounds (bound ∷ []) ∙ ap (λ n. n + 1) (bound_each earlier) ∙ sym (length-append phases (calls ∷ []))
-
 pub one_history : (s : ShapeFacts) (r : CoverFacts) (steps : Setup → Call → ℕ → Answer → Book → Book → Type 0) (budget : ℕ) (setup : Setup) (lists : List (List (List Call))) (callers : List Played) (counts : Counts) (closed : Closed)
     → (run : IsSetRun s r steps budget setup lists (replies_to callers) counts closed) → calls_of callers ≡ joined lists → run.fits.waiting ≡ [] → IsOneHistory s lists callers closed
 one_history s r steps budget setup lists callers counts closed run same none =
@@ -63,9 +54,6 @@ one_history s r steps budget setup lists callers counts closed run same none =
       printed = λ c p b at there.
           sym (book_has_replies (run.each c p.replies b (told c p at) there) ∙ ap (λ calls. answered_among (with_replies calls p.replies)) (own_calls lists callers same c p at));
       bounds = run.bounds;
-      one_each = λ c p at.
-          let book = some_at (closed_books closed) c (omega (arith, slice_get_within callers c p at, run.all_books, run.all_replies, length-map callers (λ (q : Played). q.replies))) in
-          bound_each (run.each c p.replies book.0 (told c p at) book.1).played;
       phased = λ c p b at there. book_is_phased (run.each c p.replies b (told c p at) there);
       found = run.fits.found;
     }

@@ -24,7 +24,7 @@ same_lengths (x ∷ xs) (y ∷ ys) long each =
     ap (λ n. n ∷ map length xs) (each 0 (omega arith)) ∙ ap (λ l. length y ∷ l) (same_lengths xs ys (omega (arith, long)) (λ i within. each (suc i) (omega (arith, within))))
 
 -- a place before the end has an element
-pub some_at : {A : Type 0} (xs : List A) (i : ℕ) → i < length xs → (x : A) × (slice_get xs i ≡ Some x)
+some_at : {A : Type 0} (xs : List A) (i : ℕ) → i < length xs → (x : A) × (slice_get xs i ≡ Some x)
 some_at [] i within = absurd (omega (arith, within))
 some_at (x ∷ xs) zero within = (x, refl)
 some_at (x ∷ xs) (suc i) within = some_at xs i (omega (arith, within))

@@ -30,7 +30,6 @@ pub record IsOneHistory (s : ShapeFacts) (lists : List (List (List Call))) (call
   pub printed : (c : ℕ) (p : Played) (b : Book) → slice_get callers c ≡ Some p → slice_get (closed_books closed) c ≡ Some b → IsPrintedOf p b
   -- for each phase there is a place in the history behind all calls of earlier phases and before all others, whoever made them
   pub bounds : List ℕ
-  pub one_each : (c : ℕ) (p : Played) → slice_get callers c ≡ Some p → length bounds ≡ length (phases_of lists c)
   pub phased : (c : ℕ) (p : Played) (b : Book) → slice_get callers c ≡ Some p → slice_get (closed_books closed) c ≡ Some b → ArePhased (phases_of lists c) p.replies bounds b
   -- each step that a caller made found and left what it may by its word and its kind, and one on a record that it held the generation that it had reached
   pub found : (c : ℕ) (b : Book) → At (closed_books closed) c b → (n : ℕ) (t : Step) → At b.steps n t → StepFits (closed_setup closed) c t

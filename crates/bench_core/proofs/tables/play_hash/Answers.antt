@@ -21,7 +21,7 @@ use Rattle.table_reports.proofs.OneHistory.{one_history}
 use Rattle.table_reports.proofs.Pairs.{all_paired}
 use Rattle.bench_core.specs.declared.ending.Run.{Run}
 use Rattle.bench_core.specs.Ending.{IsPlayed}
-use Rattle.bench_core.specs.Tables.{IsHashRun, records_for}
+use Rattle.bench_core.specs.Tables.{IsHashRun, all_insertions, records_for}
 use Rattle.bench_core.proofs.Enough.{enough_records}
 use Rattle.hash_runs.proofs.Sparing.{none_takes_spare_first}
 use Rattle.bench_core.proofs.tables.play_hash.Goals as goal
@@ -40,7 +40,7 @@ returns g c =
     let told = c.report_table-report.ensures in
     let report = c.report_table-report.result.report in
     let closed = c.report_table-report.result.closed in
-    let records = records_for chosen lists in
+    let records = records_for chosen (all_insertions lists) in
     let run : IsNoneRun records chosen.buckets lists (replies_to report.callers) report.counts closed =
     rw (sym c.records_for-records.ensures, told.replies, told.counts, told.closed) c.in_ok-played.ensures in
     let history = one_history michael none (MakesPiece none_manner) (2 * records + 64) (setup_with records chosen.buckets (length lists) 1 Michael Nothing Bump) lists report.callers report.counts closed run told.calls (run.fits.whole.unhelped (λ helped. helped)) in

@@ -79,6 +79,9 @@ returns-clause-alone g c = ending.alone c.end_of.ensures
 pub returns-clause-never_full : goal.returns-clause-never_full
 returns-clause-never_full g c = ending.never_full c.end_of.ensures
 
+pub returns-clause-plain_never_full : goal.returns-clause-plain_never_full
+returns-clause-plain_never_full g c = ending.plain_never_full c.end_of.ensures
+
 pub returns-clause-one_history : goal.returns-clause-one_history
 returns-clause-one_history g c = ending.one_history c.end_of.ensures
 
