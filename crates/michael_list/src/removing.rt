@@ -60,9 +60,9 @@ pub fn mark<'a, R: Scheme, A: Allocator, P: Pool>(
     }
 }
 
-// Places a removal or a search of a key that a walk found absent, where it saw that: when it reached the record behind
-// the key's place, or, at the end of the list, by its last look.
-fn place_absent<'a, R: Scheme, A: Allocator, P: Pool>(
+/// Places a removal or a search of a key that a walk found absent, where it saw that: when it reached the record behind
+/// the key's place, or, at the end of the list, by its last look.
+pub fn place_absent<'a, R: Scheme, A: Allocator, P: Pool>(
     guard: &mut Guard<'a, MichaelShape, R, A, P>,
     next: &Option<Held>,
     call: Call,
