@@ -14,7 +14,7 @@ ghost use Rattle.list_tests.specs.Both.{AreBoth};
 use crate::playing::{TestCaller, TestList};
 use alloc_bump::Bump;
 use manager::Guard;
-use michael_list::{MichaelShape, Spot, find, link_record, mark, take_out};
+use michael_list::{MichaelShape, Spot, find, link_record, mark, place_absent, take_out};
 use pool::NoPool;
 use reclaim_none::NoReclaim;
 use record_table::{Closed, Own};
@@ -90,10 +90,10 @@ fn search_absent<'a>(guard: &mut TestGuard<'a>) -> bool
     let Some(spot) = find(guard, 0, 1, 10, &mut hops) else {
         return false;
     };
-    let Spot::Absent { .. } = spot else {
+    let Spot::Absent { before: _, next } = spot else {
         return false;
     };
-    guard.place(Call::Search(1), false);
+    place_absent(guard, &next, Call::Search(1));
     true
 }
 
@@ -108,10 +108,10 @@ fn remove_absent<'a>(guard: &mut TestGuard<'a>) -> bool
     let Some(spot) = find(guard, 0, 1, 10, &mut hops) else {
         return false;
     };
-    let Spot::Absent { .. } = spot else {
+    let Spot::Absent { before: _, next } = spot else {
         return false;
     };
-    guard.place(Call::Remove(1), false);
+    place_absent(guard, &next, Call::Remove(1));
     true
 }
 

@@ -14,7 +14,7 @@ use Rattle.michael_list.specs.Walks.{loads}
 
 module _ {S R L A P : Type 0} {r : OfScheme R L} {a : OfAllocator A} {p : OfPool P} (f g h : Guard S R A P L r a p) (at : Held) (found : ℕ) (link : LinkParts) (seen : ℕ) (same : g.manager.now ≡ f.manager.now) (key : Did f (keyed at.target found) g) (look : Did g (looked (At at) 3 link seen) h) where
   pub did_loads : DidAll f (loads at found link seen) h
-  did_loads = did_then f g h (keyed at.target found ∷ []) (looked (At at) 3 link ∷ []) same (did_one f g (keyed at.target found) key) (did_one g h (looked (At at) 3 link seen) look)
+  did_loads = did_then f g h (keyed at.target found ∷ []) (looked (At at) 3 link seen ∷ []) same (did_one f g (keyed at.target found) key) (did_one g h (looked (At at) 3 link seen) look)
 
   -- and more behind them
   pub did_more : (i : Guard S R A P L r a p) (es : List Event) → h.manager.now ≡ f.manager.now → DidAll h es i → DidAll f (loads at found link seen ++ es) i

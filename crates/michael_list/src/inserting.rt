@@ -24,6 +24,7 @@ use reclaim_api::Scheme;
 use record_memory::{KEY, LINK};
 use record_table::{Held, Node, Own};
 use row_words::{Link, Ref, pack_ref};
+use set_calls::place_seen;
 use set_model::{Call, InsertAnswer};
 
 /// What one try of an insertion came to.
@@ -147,7 +148,7 @@ fn try_insert<'a, R: Scheme, A: Allocator, P: Pool>(
         }
         Some(Spot::Present { .. }) => {
             give_back(guard, hand);
-            guard.place(Call::Insert(key), false);
+            place_seen(guard, Call::Insert(key), false);
             Tried::Answered(InsertAnswer::Done(false))
         }
         Some(Spot::Absent { before, next }) => match take_record(guard, hand) {

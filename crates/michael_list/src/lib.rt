@@ -6,7 +6,8 @@
 //! a reclaimer. After each unlinking the predecessor's link is tried anew, and a remover whose unlinking failed leaves
 //! the record to a later walk: these two rules are this project's.
 //!
-//! `find`, `link_record`, `mark` and `take_out` are the pieces of the calls, for a caller that is inside a guard.
+//! `find`, `link_record`, `mark`, `take_out` and `place_absent` are the pieces of the calls, for a caller that is inside a
+//! guard.
 #![tactic(auto)]
 
 mod inserting;
@@ -19,7 +20,7 @@ mod walking;
 
 pub use inserting::link_record;
 pub use list::MichaelList;
-pub use removing::mark;
+pub use removing::{mark, place_absent};
 pub use shape::MichaelShape;
 pub use spots::{Landing, Spot};
 pub use walking::{find, take_out};

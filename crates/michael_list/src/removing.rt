@@ -1,5 +1,5 @@
 // A removal and a search, within a guard.
-ghost use Rattle.std.specs.Prelude.{◌≡◌, ◌<◌, ◌≤◌, ◌++◌, ℕ, List, Option, Some, None, MatchOption, MatchBool, ◌+◌};
+ghost use Rattle.std.specs.Prelude.{◌≡◌, ◌<◌, ◌≤◌, ◌++◌, ℕ, List, Option, Some, None, MatchOption, MatchBool, ◌+◌, false};
 ghost use Rattle.set_model.specs.declared.calls.Call.TheVariants.{Remove};
 ghost use Rattle.row_words.specs.Refs.{LinkParts};
 ghost use Rattle.row_words.specs.Packing.{packed_link, IsLink};
@@ -30,7 +30,7 @@ use reclaim_api::Scheme;
 use record_memory::LINK;
 use record_table::{Held, Node};
 use row_words::Link;
-use set_calls::same_held;
+use set_calls::{place_reached, place_seen, same_held};
 use set_model::{Call, LookAnswer};
 
 /// Marks the record with the key, where its link is still this one, as a walk found it, which decides the removal.
@@ -60,24 +60,25 @@ pub fn mark<'a, R: Scheme, A: Allocator, P: Pool>(
     }
 }
 
-// Places a removal or a search of a key that a walk found absent, behind just as many updates as there were when it
-// saw that, which the next record tells.
-fn place_absent<'a, R: Scheme, A: Allocator, P: Pool>(
+/// Places a removal or a search of a key that a walk found absent, where it saw that: when it reached the record behind
+/// the key's place, or, at the end of the list, by its last look.
+pub fn place_absent<'a, R: Scheme, A: Allocator, P: Pool>(
     guard: &mut Guard<'a, MichaelShape, R, A, P>,
-    _next: &Option<Held>,
+    next: &Option<Held>,
     call: Call,
 )
-    ghost position: { ℕ }
     requires at_work { IsAtWork guard.old }
     requires started { HasStarted guard.old.caller.now.pass }
-    requires position { position ≡ absent_at (view guard.old.caller.now.pass) _next.now }
-    requires allowed { MayPlaceIn michael (view guard.old.caller.now.pass) position call false }
+    requires allowed { MayPlaceIn michael (view guard.old.caller.now.pass) (absent_at (view guard.old.caller.now.pass) next.now) call false }
     ensures at_work { IsAtWork guard.new }
     ensures same { IsSameGuard guard.old guard.new }
-    ensures step { (found : ℕ) × (view guard.new.caller.now.pass ≡ placed_view (view guard.old.caller.now.pass) 0 found position call false) }
-    ensures did { Did guard.old (placed call false position) guard.new }
+    ensures step { (found : ℕ) × (view guard.new.caller.now.pass ≡ placed_view (view guard.old.caller.now.pass) 0 found (absent_at (view guard.old.caller.now.pass) next.now) call false) }
+    ensures did { Did guard.old (placed call false (absent_at (view guard.old.caller.now.pass) next.now)) guard.new }
 {
-    guard.place(call, false);
+    match next {
+        Some(at) => place_reached(guard, at, call, false),
+        None => place_seen(guard, call, false),
+    }
 }
 
 // One try: a walk, and what comes of it. `None`: a word had changed.
@@ -153,7 +154,7 @@ pub(crate) fn search<'a, R: Scheme, A: Allocator, P: Pool>(
     match find(guard, root, key, budget, &mut hops) {
         None => LookAnswer::Again { hops },
         Some(Spot::Present { .. }) => {
-            guard.place(Call::Search(key), true);
+            place_seen(guard, Call::Search(key), true);
             LookAnswer::Done(true)
         }
         Some(Spot::Absent { next, .. }) => {

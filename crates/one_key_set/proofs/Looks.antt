@@ -5,7 +5,6 @@ use Rattle.set_model.specs.declared.calls.Call.{Call}
 use Rattle.set_model.specs.Keys.{contains}
 use Rattle.set_model.specs.Histories.{keys_of}
 use Rattle.record_memory.specs.declared.books.Note.{Note}
-use Rattle.record_memory.specs.declared.books.Setup.{Setup}
 use Rattle.row_words.specs.Refs.{RefParts, LinkParts}
 use Rattle.row_words.specs.Packing.{link_in, key_in, packed_link}
 use Rattle.row_words.proofs.Packed.{link_in-packed_link}
@@ -30,7 +29,7 @@ module _ {S R : Type 0} (p q : Pass S R) (key : ℕ) (link : LinkParts) (setup :
   link_is = ap link_in seen.saw.word ∙ seen.link_is
 
   -- it leads nowhere, so the key is absent
-  pub absent_there : link.target ≡ None → HasSeenKey q key false
+  pub absent_there : link.target ≡ None → HasSeenKey q key false (view q).own.updates_seen
   absent_there ends = seen_by_hold p q setup none key false one_key of_michael (from_root key) 0 link seen (seen.saw.shown.absent key refl (ap (λ (l : LinkParts). l.target) link_is ∙ ends))
 
   -- it leads to a record, which is held from then on, and has the key
@@ -87,7 +86,7 @@ module _ {S R : Type 0} (c : CoverFacts) (p q : Pass S R) (key : ℕ) (at : Held
   }
 
   -- without a mark, the key was in the set
-  pub present_there : ¬ HasMark (link_in n) → (view q).setup ≡ (view p).setup → AnswersNone (view p) (view q) → KeepsHeld p q → HasSeenKey q key true
+  pub present_there : ¬ HasMark (link_in n) → (view q).setup ≡ (view p).setup → AnswersNone (view p) (view q) → KeepsHeld p q → HasSeenKey q key true (view q).own.updates_seen
   present_there clear setup none keeps = seen_by_load p q setup none key true one_key of_michael (from_place at.place at.target) c first n told keeps holds.there.started
       (ap (λ k. contains (keys_of (view q).seen_updates) k) same_key ∙ told.saw.shown.present refl (λ e. clear (sym (ap mark_bit is_link) ∙ e)))
     where

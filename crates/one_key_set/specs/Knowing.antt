@@ -24,8 +24,8 @@ module _ {S R : Type 0} where
   abbrev pub KnowsMark : Pass S R → Held → Type 0
   KnowsMark p at = (generation : ℕ) × At (note_in (view p).own.notes at.place).words 0 (Some (packed_link generation empty_marked))
 
-  -- what it knows by what it saw behind the root of the key
+  -- what it knows by what it saw behind the root of the key, at its last look
   abbrev pub IsSeen : Pass S R → ℕ → Seen → Type 0
-  IsSeen p key Absent = HasSeenKey p key false
-  IsSeen p key (Present at) = HoldsKey p key at × HasSeenKey p key true
+  IsSeen p key Absent = HasSeenKey p key false (view p).own.updates_seen
+  IsSeen p key (Present at) = HoldsKey p key at × HasSeenKey p key true (view p).own.updates_seen
   IsSeen p key Changed = Unit {0}

@@ -18,7 +18,7 @@ use reclaim_api::Scheme;
 use record_memory::{KEY, LINK};
 use record_table::{Held, Node, Own};
 use row_words::{Link, pack_ref};
-use set_calls::same_held;
+use set_calls::{place_seen, same_held};
 use set_model::Call;
 
 // Fills a record and links it behind the empty root of its key, which decides the insertion. `false`: the root led
@@ -71,7 +71,7 @@ fn try_insert<'a, R: Scheme, A: Allocator, P: Pool>(
             Err(none) => Added::Full { found: none.found },
         },
         Seen::Present(_) => {
-            guard.place(Call::Insert(u64::from(key)), false);
+            place_seen(guard, Call::Insert(u64::from(key)), false);
             Added::Done(false)
         }
         Seen::Changed => Added::Again,
@@ -115,7 +115,7 @@ fn try_remove<'a, R: Scheme, A: Allocator, P: Pool>(
 {
     match look(guard, key) {
         Seen::Absent => {
-            guard.place(Call::Remove(u64::from(key)), false);
+            place_seen(guard, Call::Remove(u64::from(key)), false);
             Some(false)
         }
         Seen::Present(at) => {
@@ -145,7 +145,7 @@ fn try_search<'a, R: Scheme, A: Allocator, P: Pool>(
         Seen::Present(_) => true,
         Seen::Changed => return None,
     };
-    guard.place(Call::Search(u64::from(key)), found);
+    place_seen(guard, Call::Search(u64::from(key)), found);
     Some(found)
 }
 

@@ -1,17 +1,14 @@
 -- What was seen of a key may be answered, and what placing the answer leaves.
-use Rattle.std.proofs.Common.{◌≡◌, ℕ, ◌+◌, ◌-◌, List, [], ◌∷◌, ◌++◌, length, length-append, take, Bool, true, false, not, sym, refl, ap, ◌∙◌, subst, arith}
+use Rattle.std.proofs.Common.{◌≡◌, ℕ, ◌+◌, ◌-◌, List, [], ◌∷◌, ◌++◌, length, length-append, take, Bool, not, sym, refl, ap, ◌∙◌, subst, arith}
 use Rattle.std.proofs.lemmas.List.{take-append-le, length-take-le}
 use Rattle.std.proofs.Math.Seq.{take-length, take-append-add}
 use Rattle.set_model.specs.declared.calls.Call.{Call}
-use Rattle.set_model.specs.declared.calls.Call.TheVariants.{Insert, Remove, Search}
 use Rattle.set_model.specs.declared.calls.Update.{Update}
 use Rattle.set_model.specs.declared.names.SetName.{SetName}
 use Rattle.set_model.specs.Keys.{contains}
 use Rattle.set_model.specs.Machine.{key_of}
 use Rattle.set_model.specs.Histories.{keys_of}
-use Rattle.record_memory.specs.declared.books.Setup.{Setup}
 use Rattle.record_memory.specs.declared.books.View.{View}
-use Rattle.record_memory.specs.declared.books.Answered.{Answered}
 use Rattle.record_rule.specs.Facts.{ShapeFacts}
 use Rattle.record_rule.specs.Machines.{set_replies, replies_for}
 use Rattle.record_rule.specs.World.{StartsWith}

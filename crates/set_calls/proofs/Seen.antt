@@ -1,6 +1,5 @@
 -- What was seen of a key: by the calls of a guard that see it, and after calls that keep what was seen.
-use Rattle.std.proofs.Common.{◌≡◌, ℕ, ◌≤◌, List, length, length-append, Bool, sym, ap, ◌∙◌, subst, arith}
-use Rattle.set_model.specs.declared.names.SetName.{SetName}
+use Rattle.std.proofs.Common.{◌≡◌, ℕ, ◌≤◌, length, length-append, Bool, sym, ap, ◌∙◌, subst, arith}
 use Rattle.set_model.specs.Keys.{contains}
 use Rattle.set_model.specs.Histories.{keys_of}
 use Rattle.record_memory.specs.declared.books.Setup.{Setup}

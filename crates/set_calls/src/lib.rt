@@ -8,5 +8,7 @@
 #![tactic(auto)]
 
 mod nodes;
+mod placing;
 
 pub use nodes::{same_held, same_node};
+pub use placing::{place_reached, place_seen};

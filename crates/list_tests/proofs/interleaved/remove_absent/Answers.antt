@@ -6,6 +6,6 @@ use Rattle.set_calls.proofs.Placed.{may_answer}
 use Rattle.michael_list.proofs.Ends.{is_spot}
 use Rattle.list_tests.proofs.interleaved.remove_absent.Goals as goal
 
-pub place-requires-clause-allowed : goal.place-requires-clause-allowed
-place-requires-clause-allowed c = let p = c.find.new.guard.caller.now.pass in
+pub place_absent-requires-clause-allowed : goal.place_absent-requires-clause-allowed
+place_absent-requires-clause-allowed c = let p = c.find.new.guard.caller.now.pass in
     may_answer michael p (Remove 1) false false (is_spot p 0 1 c.in-Absent.is c.in-Some.ensures.spot.1).2 (λ h. h) (removal 1)

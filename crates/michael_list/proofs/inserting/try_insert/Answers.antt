@@ -16,8 +16,8 @@ use Rattle.michael_list.proofs.Standing.{before_held, seen_held}
 use Rattle.michael_list.proofs.Inserted.{beyond_held, no_hops_left, key_was_there, none_was_left, was_linked, was_refused}
 use Rattle.michael_list.proofs.inserting.try_insert.Goals as goal
 
-pub place-requires-clause-allowed : goal.place-requires-clause-allowed
-place-requires-clause-allowed g c = let back_is = c.give_back-in-Some-Present.ensures in
+pub place_seen-requires-clause-allowed : goal.place_seen-requires-clause-allowed
+place_seen-requires-clause-allowed g c = let back_is = c.give_back-in-Some-Present.ensures in
     let spot = subst (λ (s : Spot). IsSpot c.find.new.guard.caller.now.pass c.args.root c.args.key s) c.in-Some-Present.field-0-is c.in-Some-Present.ensures.spot.1 in
     may_answer michael c.give_back-in-Some-Present.new.guard.caller.now.pass (Insert c.args.key) true false
     (subst (HasSeenKey c.give_back-in-Some-Present.new.guard.caller.now.pass c.args.key true) (sym back_is.seen)
@@ -47,17 +47,17 @@ returns-in-Some-Present-clause-tells g c =
     let p = c.args.guard.now.caller.now.pass in let found = c.find.new.guard.caller.now.pass in let q = c.give_back-in-Some-Present.new.guard.caller.now.pass in
     let on = c.find.ensures.on in let back_is = c.give_back-in-Some-Present.ensures in
     let seen = subst (HasSeenKey q c.args.key true) (sym back_is.seen) (seen_held found q back_is.same.pass.setup c.args.root back_is.keeps back_is.answers c.args.key true spot.5) in
-    read_seen michael p q c.place.new.self.caller.now.pass (Insert c.args.key) true false seen (λ h. h) (insertion c.args.key) (back_is.same.pass.setup ∙ on.same.pass.setup) (none_then (view p) (view found) (view q) on.answers back_is.answers) c.place.ensures.step
+    read_seen michael p q c.place_seen.new.guard.caller.now.pass (Insert c.args.key) true false seen (λ h. h) (insertion c.args.key) (back_is.same.pass.setup ∙ on.same.pass.setup) (none_then (view p) (view found) (view q) on.answers back_is.answers) c.place_seen.ensures.step
 
 pub returns-in-Some-Present-clause-did : goal.returns-in-Some-Present-clause-did
 returns-in-Some-Present-clause-did g c =
-    let f = c.args.guard.now in let h = c.find.new.guard in let i = c.give_back-in-Some-Present.new.guard in let j = c.place.new.self in let did = c.in-Some-Present.ensures.did in
+    let f = c.args.guard.now in let h = c.find.new.guard in let i = c.give_back-in-Some-Present.new.guard in let j = c.place_seen.new.guard in let did = c.in-Some-Present.ensures.did in
     let finds = subst (λ (s : Spot). Finds c.args.key c.args.root did.0 (Some s) (Some (shown_at (view h.caller.now.pass) s)) did.1) c.in-Some-Present.field-0-is did.3 in
     let kept = c.give_back-in-Some-Present.ensures.seen in let found = subst (λ k. Finds c.args.key c.args.root did.0 (Some (Present c.in-Some-Present.field-0-0 c.in-Some-Present.field-0-1 c.in-Some-Present.field-0-2)) (Some k) did.1) (sym kept) finds in
     let e : Event = placed (Insert c.args.key) false (view i.caller.now.pass).own.updates_seen in (
       did.1 ++ (back c.args.hand ++ e ∷ []),
       did_then f h j did.1 (back c.args.hand ++ e ∷ []) c.find.ensures.on.same.manager did.4
-          (did_then h i j (back c.args.hand) (e ∷ []) c.give_back-in-Some-Present.ensures.same.manager c.give_back-in-Some-Present.ensures.did (did_one i j e c.place.ensures.did)),
+          (did_then h i j (back c.args.hand) (e ∷ []) c.give_back-in-Some-Present.ensures.same.manager c.give_back-in-Some-Present.ensures.did (did_one i j e c.place_seen.ensures.did)),
       λ ds tries. key_was_there c.args.root c.args.key c.args.budget c.args.hops.now c.find.new.hops did.0 did.2 c.args.hand c.in-Some-Present.field-0-0 c.in-Some-Present.field-0-1 c.in-Some-Present.field-0-2 ds did.1 (view i.caller.now.pass).own.updates_seen c.find.ensures.hops tries found,
     )
 

@@ -1,4 +1,4 @@
-use Rattle.michael_list.proofs.removing.place_absent.Given as goal
+use Rattle.set_calls.proofs.placing.place_by.Given as goal
 
 -- where its caller says
 abbrev pub ghost-place : goal.ghost-place
