@@ -1,5 +1,5 @@
 -- A draw leaves the chains.
-use Rattle.std.proofs.Common.{◌≡◌, ◌-◌, ◌<◌, get_or, length, length-set, List, Some, None, Result, Ok, Err, sym, refl, ap, ◌∙◌, arith}
+use Rattle.std.proofs.Common.{◌≡◌, ◌+◌, ◌-◌, ◌<◌, get_or, length, length-set, List, Some, None, Result, Ok, Err, sym, refl, ap, ◌∙◌, arith}
 use Rattle.std.specs.List.{count_by}
 use Rattle.std.specs.Prelude.{MatchResult}
 use Rattle.record_memory.specs.declared.steps.Step.{Step}
@@ -14,6 +14,8 @@ use Rattle.record_rule.proofs.HandingOut.{known_within}
 use Rattle.alloc_api.specs.Drawn.{IsNew, GetsOne, GetsNone}
 use Rattle.reclaim_api.specs.Frames.{in_away}
 use Rattle.reclaim_api.proofs.Kept.{Stays}
+use Rattle.record_pieces.specs.Hands.{in_hand}
+use Rattle.record_pieces.proofs.Hands.{hand_more}
 use Rattle.manager.proofs.OneShare.{AwayStays, all_stay, limbo_new}
 use Rattle.manager.proofs.Stay.{mine_stays}
 
@@ -31,6 +33,10 @@ module _ (v w : View) (r : RefParts) (new : IsNew v w r) (one : GetsOne v w r) w
   new_idle : idle w.own ≡ idle v.own
   unfolding idle
   new_idle = ap (count_by is_idle) one.mine ∙ counts_same is_idle v.own.mine (r.index - 1) (Some (drawn_share v.setup.first)) None within (sym (ap is_idle new.new))
+
+  -- one more is in hand
+  pub new_hand : in_hand w.own ≡ in_hand v.own + 1
+  new_hand = hand_more v w r.index None (Some (drawn_share v.setup.first)) new.new one.mine within refl refl
 
 module _ {E : Type 0} (v w : View) where
   -- what is in limbo stays

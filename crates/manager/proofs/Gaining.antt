@@ -1,16 +1,19 @@
 -- A chain of free records comes from the pool.
-use Rattle.std.proofs.Common.{◌≡◌, ◌≢◌, ◌⊎◌, inl, inr, ℕ, ◌+◌, ◌-◌, List, [], ◌∷◌, All, get_or, sym, ap, ◌∙◌, arith, Some, None}
+use Rattle.std.proofs.Common.{◌≡◌, ◌≢◌, ◌⊎◌, inl, inr, ℕ, ◌+◌, ◌-◌, List, [], ◌∷◌, All, get_or, sym, refl, ap, ◌∙◌, arith, Option, Some, None}
 use native.Mathlib.Decide.{ℕ_discrete}
 use Rattle.std.proofs.lemmas.List.Elements.{All-nil, All-cons, All-head, All-tail}
 use Rattle.record_memory.specs.declared.books.View.{View}
+use Rattle.record_memory.specs.declared.books.Share.{Share}
 use Rattle.record_memory.specs.declared.books.Standing.{Standing}
 use Rattle.record_memory.specs.declared.books.Standing.TheVariants.{Free}
 use Rattle.row_words.specs.Refs.{RefParts}
 use Rattle.row_words.specs.declared.links.Chain.{Chain}
 use Rattle.record_rule.specs.Kinds.{share_in, idle}
 use Rattle.reclaim_api.specs.Chained.{IsAs, refs_in}
-use Rattle.reclaim_api.specs.Frames.{away_as, in_away}
+use Rattle.reclaim_api.specs.Frames.{away_as, in_away, is_as}
 use Rattle.reclaim_api.proofs.Kept.{Stays}
+use Rattle.record_pieces.specs.Hands.{is_in_hand, in_hand}
+use Rattle.record_pieces.proofs.Hands.{count_like}
 use Rattle.pool.specs.Calls.{IsFull, Gains}
 use Rattle.manager.proofs.OneShare.{AwayStays}
 
@@ -38,9 +41,9 @@ module _ (v w : View) (chain : Chain) (full : IsFull w chain) (gains : Gains v w
   both : All (λ r. (share_in v r.index ≡ None) × IsAs Free w r) (refs_in w chain)
   both k d b = (gains.had k d b, full.list.list.owned k d b)
 
-  -- and what is in limbo stays
-  pub gained_limbo : AwayStays v w
-  gained_limbo j = by (is_in (λ r. (share_in v r.index ≡ None) × IsAs Free w r) (j + 1) (refs_in w chain) both)
+  -- what sees no free record sees the same
+  gained_like : {A : Type 0} (see : Option Share → A) → ((h : Share) → h.standing ≡ Free → see (Some h) ≡ see None) → (j : ℕ) → see (get_or w.own.mine j None) ≡ see (get_or v.own.mine j None)
+  gained_like see blind j = by (is_in (λ r. (share_in v r.index ≡ None) × IsAs Free w r) (j + 1) (refs_in w chain) both)
     where
       place : j + 1 - 1 ≡ j
       place = omega arith
@@ -51,9 +54,17 @@ module _ (v w : View) (chain : Chain) (full : IsFull w chain) (gains : Gains v w
       at_w : share_in w (j + 1) ≡ get_or w.own.mine j None
       at_w = ap (λ k. get_or w.own.mine k None) place
 
-      by : All (λ (r : RefParts). r.index ≢ j + 1) (refs_in w chain) ⊎ ((r : RefParts) × ((share_in v r.index ≡ None) × IsAs Free w r) × (r.index ≡ j + 1)) → in_away (get_or w.own.mine j None) ≡ in_away (get_or v.own.mine j None)
-      by (inl apart) = ap in_away (sym at_w ∙ gains.others (j + 1) apart ∙ at_v)
-      by (inr found) = let free = found.1.1 in ap in_away (sym at_w ∙ ap (share_in w) (sym found.2) ∙ free.owns.known) ∙ ap (away_as free.owns.share) free.standing_is ∙ ap in_away (sym found.1.0 ∙ ap (share_in v) found.2 ∙ at_v)
+      by : All (λ (r : RefParts). r.index ≢ j + 1) (refs_in w chain) ⊎ ((r : RefParts) × ((share_in v r.index ≡ None) × IsAs Free w r) × (r.index ≡ j + 1)) → see (get_or w.own.mine j None) ≡ see (get_or v.own.mine j None)
+      by (inl apart) = ap see (sym at_w ∙ gains.others (j + 1) apart ∙ at_v)
+      by (inr found) = let free = found.1.1 in ap see (sym at_w ∙ ap (share_in w) (sym found.2) ∙ free.owns.known) ∙ blind free.owns.share free.standing_is ∙ ap see (sym found.1.0 ∙ ap (share_in v) found.2 ∙ at_v)
+
+  -- so what is in limbo stays
+  pub gained_limbo : AwayStays v w
+  gained_limbo = gained_like in_away (λ h free. ap (away_as h) free)
+
+  -- and as many are in hand
+  pub gained_hand : in_hand w.own ≡ in_hand v.own
+  gained_hand = count_like (is_as is_in_hand) refl w.own.mine v.own.mine (gained_like (is_as is_in_hand) (λ h free. ap is_in_hand free))
 
   -- as many more are idle
   pub gained_idle : idle w.own ≡ idle v.own + chain.count

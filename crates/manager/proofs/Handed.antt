@@ -1,5 +1,5 @@
 -- Handing a record out leaves the chains.
-use Rattle.std.proofs.Common.{◌≡◌, ◌≢◌, ℕ, zero, suc, ◌-◌, ◌<◌, ◌≤◌, List, get_or, sym, refl, ap, ◌∙◌, subst, arith, Some, None}
+use Rattle.std.proofs.Common.{◌≡◌, ◌≢◌, ℕ, zero, suc, ◌-◌, ◌<◌, ◌≤◌, List, get_or, sym, refl, ap, ◌∙◌, subst, arith, true, Some, None}
 use native.Mathlib.Decide.{ℕ_discrete}
 use Rattle.record_memory.specs.declared.books.Setup.{Setup}
 use Rattle.record_memory.specs.declared.books.View.{View}
@@ -9,9 +9,11 @@ use Rattle.record_memory.specs.declared.books.Standing.TheVariants.{Handing, Own
 use Rattle.row_words.specs.Refs.{RefParts}
 use Rattle.record_rule.specs.Kinds.{stored_as}
 use Rattle.record_rule.specs.HandingOut.{HasDrawn, handed_out, stores_from, fresh_row}
-use Rattle.record_rule.proofs.HandingOut.{share_known, share_then, standing_then, standing_last}
+use Rattle.record_rule.proofs.HandingOut.{known_within, share_known, share_then, standing_then, standing_last}
 use Rattle.reclaim_api.specs.Frames.{away_as}
 use Rattle.reclaim_api.proofs.Kept.{Stays}
+use Rattle.record_pieces.specs.Hands.{is_in_hand, in_hand}
+use Rattle.record_pieces.proofs.Hands.{hand_same}
 use Rattle.manager.proofs.MoveCounts.{AreSameMoves, same_moves, moves_then, stored_moves}
 use Rattle.manager.proofs.OneShare.{AwayStays, others_stay, limbo_stays}
 
@@ -60,6 +62,16 @@ no_limbo h Limbo b = absurd b
 no_limbo h Free b = absurd b
 no_limbo h Spent b = absurd b
 
+-- it is in hand
+busy_hand : (s : Standing) → IsBusy s → is_in_hand s ≡ true
+busy_hand (Handing n) b = refl
+busy_hand Own b = refl
+busy_hand Spare b = absurd b
+busy_hand TakenOut b = absurd b
+busy_hand Limbo b = absurd b
+busy_hand Free b = absurd b
+busy_hand Spent b = absurd b
+
 module _ (v : View) (r : RefParts) (birth : ℕ) (d : HasDrawn v r) where
   abbrev row : List ℕ
   row = fresh_row r.generation birth
@@ -89,6 +101,13 @@ module _ (v : View) (r : RefParts) (birth : ℕ) (d : HasDrawn v r) where
       (ap (λ (x : View). x.own.mine) (more n)) (no_limbo (share n) (share n).standing (busy n (omega arith))) (no_limbo (share (suc n)) (share (suc n)).standing (busy (suc n) (omega arith))) j
       ∙ limbo n (omega arith) j
 
+  -- as many records are in hand at each
+  hand : (n : ℕ) → n < 9 → in_hand (at n).own ≡ in_hand v.own
+  hand zero lt = refl
+  hand (suc n) lt = let known = share_known v r.index row d.share d.known n in
+      hand_same (at n) (at (suc n)) r.index (Some (share n)) (Some (share (suc n))) known (ap (λ (x : View). x.own.mine) (more n)) (known_within (at n).own.mine (r.index - 1) (share n) known)
+      (busy_hand (share (suc n)).standing (busy (suc n) (omega arith)) ∙ sym (busy_hand (share n).standing (busy n (omega arith)))) ∙ hand n (omega arith)
+
   -- no record is moved but so
   moved : (n : ℕ) → n < 9 → AreSameMoves v.own.moves (at n).own.moves
   moved zero lt = same_moves v.own.moves v.own.moves refl
@@ -104,6 +123,10 @@ module _ (v w : View) (r : RefParts) (birth : ℕ) (d : HasDrawn v r) (step : w 
   pub handed_limbo : AwayStays v w
   unfolding handed_out
   handed_limbo = subst (AwayStays v) (sym step) (limbo v r birth d 8 (omega arith))
+
+  pub handed_hand : in_hand w.own ≡ in_hand v.own
+  unfolding handed_out
+  handed_hand = ap (λ (x : View). in_hand x.own) step ∙ hand v r birth d 8 (omega arith)
 
   pub handed_moves : AreSameMoves v.own.moves w.own.moves
   unfolding handed_out

@@ -1,6 +1,5 @@
 -- A caller's counts after its calls.
-use Rattle.std.proofs.Common.{◌≡◌, ℕ, ◌+◌, ◌==◌, suc, zero, List, [], ◌∷◌, get_or, Bool, true, false, cond, Option, Some, None, sym, refl, ap, ◌∙◌, arith}
-use Rattle.std.specs.List.{count_by}
+use Rattle.std.proofs.Common.{◌≡◌, ℕ, ◌+◌, ◌==◌, get_or, Bool, true, false, cond, Option, Some, None, sym, refl, ap, ◌∙◌, arith}
 use Rattle.record_memory.specs.declared.books.Moves.{Moves}
 use Rattle.record_memory.specs.declared.books.Share.{Share}
 use Rattle.record_memory.specs.declared.books.Standing.{Standing}
@@ -10,8 +9,8 @@ use Rattle.row_words.specs.declared.links.Chain.{Chain}
 use Rattle.row_words.specs.declared.links.Freed.{Freed}
 use Rattle.record_rule.specs.Kinds.{moves_stored}
 use Rattle.record_rule.specs.Standings.{is_limbo, is_spent}
-use Rattle.record_rule.proofs.CountingPlaces.{bit, count_cons}
 use Rattle.reclaim_api.specs.Frames.{away_as, in_away, is_as, had, IsLimboLeft, FreesInto}
+use Rattle.record_pieces.proofs.Hands.{count_like}
 use Rattle.manager.specs.declared.types.Moved.{Moved}
 use Rattle.manager.specs.Counted.{shown, AreCounted}
 use Rattle.manager.proofs.OneShare.{AwayStays}
@@ -42,18 +41,6 @@ stored_moves TakenOut m = same_moves m m refl
 stored_moves Limbo m = same_moves m m refl
 stored_moves Free m = same_moves m m refl
 stored_moves Spent m = same_moves m m refl
-
--- no entry stands past the end
-past : {A : Type 0} (j : ℕ) → get_or {A = Option A} [] j None ≡ None
-past zero = refl
-past (suc j) = refl
-
--- two lists with the same entries where they count count the same
-count_like : {A : Type 0} (p : Option A → Bool) → p None ≡ false → (xs ys : List (Option A)) → ((j : ℕ) → p (get_or xs j None) ≡ p (get_or ys j None)) → count_by p xs ≡ count_by p ys
-count_like p none [] [] e = refl
-count_like p none [] (y ∷ ys) e = let c = count_cons p y ys in let b = ap bit (sym (e 0) ∙ none) in let h = count_like p none [] ys (λ j. ap p (past j) ∙ sym (ap p (past (suc j))) ∙ e (suc j)) in omega arith
-count_like p none (x ∷ xs) [] e = let c = count_cons p x xs in let b = ap bit (e 0 ∙ none) in let h = count_like p none xs [] (λ j. e (suc j) ∙ ap p (past (suc j)) ∙ sym (ap p (past j))) in omega arith
-count_like p none (x ∷ xs) (y ∷ ys) e = let c = count_cons p x xs in let d = count_cons p y ys in let b = ap bit (e 0) in let h = count_like p none xs ys (λ j. e (suc j)) in omega arith
 
 -- what counts only records that were retired and can't be handed out sees no others
 pub record SeesAway (test : Standing → Bool) : Type 0 where

@@ -20,6 +20,9 @@ use Rattle.record_rule.specs.Asides.{put_aside, put_aside_as, chain_word}
 use Rattle.record_rule.specs.HandingOut.{HasOwn}
 use Rattle.record_rule.specs.Makes.{Makes}
 use Rattle.record_rule.proofs.Makes.{makes_one}
+use Rattle.record_rule.proofs.HandingOut.{known_within}
+use Rattle.record_pieces.specs.Hands.{is_in_hand, in_hand}
+use Rattle.record_pieces.proofs.Hands.{hand_less}
 use Rattle.record_rule.proofs.TakesFree.{read_with}
 use Rattle.reclaim_api.specs.Chained.{IsAs, IsChainOf, refs_in}
 use Rattle.reclaim_api.specs.Frames.{away_as}
@@ -62,6 +65,10 @@ module _ (v w : View) (chain after : Chain) (r : RefParts) (row : List ℕ) (lis
   -- and none comes into limbo
   pub pushed_limbo : AwayStays v w
   pushed_limbo = limbo_stays v w r.index was is own.known pushed_mine (ap (away_as was) own.standing_is) refl
+
+  -- one is in hand no more
+  pub pushed_hand : in_hand w.own + 1 ≡ in_hand v.own
+  pushed_hand = hand_less v w r.index (Some was) (Some is) own.known pushed_mine (known_within v.own.mine (r.index - 1) was own.known) (ap is_in_hand own.standing_is) refl
 
   -- no record was moved but so
   pub pushed_moves : w.own.moves ≡ v.own.moves

@@ -1,5 +1,5 @@
 -- The first record of a chain is taken: a spare one is own again, and a free one is to be handed out anew.
-use Rattle.std.proofs.Common.{◌≡◌, ℕ, ◌-◌, [], ◌∷◌, get_or, set, sym, refl, ap, ◌∙◌, Some}
+use Rattle.std.proofs.Common.{◌≡◌, ℕ, ◌+◌, ◌-◌, [], ◌∷◌, get_or, set, sym, refl, ap, ◌∙◌, Some}
 use Rattle.record_memory.specs.declared.books.View.{View}
 use Rattle.record_memory.specs.declared.books.Share.{Share}
 use Rattle.record_memory.specs.declared.books.Standing.TheVariants.{Own, Spare, Free}
@@ -11,6 +11,9 @@ use Rattle.record_rule.specs.Asides.{took_spare, took_spare_as, HasSpare}
 use Rattle.record_rule.specs.TakesFree.{HasFree, renewed, TookFree}
 use Rattle.record_rule.specs.Makes.{Makes}
 use Rattle.record_rule.proofs.Makes.{makes_one}
+use Rattle.record_rule.proofs.HandingOut.{known_within}
+use Rattle.record_pieces.specs.Hands.{is_in_hand, in_hand}
+use Rattle.record_pieces.proofs.Hands.{hand_more}
 use Rattle.reclaim_api.specs.Chained.{IsAs, IsChainOf}
 use Rattle.reclaim_api.specs.Frames.{away_as}
 use Rattle.reclaim_api.proofs.Kept.{chain_stays}
@@ -65,6 +68,10 @@ module _ (v w : View) (chain after : Chain) (r : RefParts) (list : IsChainOf Spa
     pub taken_limbo : AwayStays v w
     taken_limbo = limbo_stays v w r.index was is spare_as.owns.known taken_mine (ap (away_as was) spare_as.standing_is) refl
 
+    -- one more is in hand
+    pub taken_hand : in_hand w.own ≡ in_hand v.own + 1
+    taken_hand = hand_more v w r.index (Some was) (Some is) spare_as.owns.known taken_mine (known_within v.own.mine (r.index - 1) was spare_as.owns.known) (ap is_in_hand spare_as.standing_is) refl
+
     -- and so do the free ones
     pub taken_free : (free : Chain) → IsChainOf Free v free → IsChainOf Free w free
     taken_free free h = chain_stays Free v w records (others_stay v w r.index was is spare_as.owns.known taken_mine Free (λ e. (let two : Spare ≡ Free = sym spare_as.standing_is ∙ e in let none : ⊥ = cc in none))) free h
@@ -107,6 +114,10 @@ module _ (v w : View) (chain after : Chain) (r : RefParts) (list : IsChainOf Fre
     -- what is in limbo stays
     pub again_away : AwayStays v w
     again_away = limbo_stays v w r.index old new told.was.known again_mine (ap (away_as old) told.was.free) refl
+
+    -- one more is in hand
+    pub again_hand : in_hand w.own ≡ in_hand v.own + 1
+    again_hand = hand_more v w r.index (Some old) (Some new) told.was.known again_mine (known_within v.own.mine (r.index - 1) old told.was.known) (ap is_in_hand told.was.free) refl
 
     -- and so do the spare ones
     pub again_spare : (spare : Chain) → IsChainOf Spare v spare → IsChainOf Spare w spare

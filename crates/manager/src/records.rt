@@ -11,7 +11,8 @@ ghost use Rattle.record_rule.specs.Standings.{is_spare};
 ghost use Rattle.record_table.specs.Handles.{setup_of, view, IsPassOf, IsSamePass};
 ghost use Rattle.reclaim_api.specs.Frames.{had};
 ghost use Rattle.reclaim_api.specs.Holds.{KeepsHeld};
-ghost use Rattle.record_pieces.specs.Events.{own_load, own_store, HandsOut, KeepsStock, WasFree, Gets, Takes as TakesRecord, FindsNone};
+ghost use Rattle.record_pieces.specs.Hands.{in_hand};
+ghost use Rattle.record_pieces.specs.Events.{own_load, own_store, HandsOut, KeepsStock, WasFree, Gets, FindsNone, Does, took, refused};
 ghost use Rattle.pool.specs.Calls.{Takes};
 ghost use Rattle.pool.specs.declared.Taken.TheVariants.{Some as Took, None as FoundNone};
 ghost use Rattle.manager.specs.Manners.{manner};
@@ -37,6 +38,7 @@ fn take_spare<S: Shape, R: Scheme>(table: &Table<S, R>, caller: &mut Caller<S, R
     ensures own { IfSome result (λ own. IsOwnOf (view caller.new.pass) own) }
     ensures made { IfSome result (λ own. (n : ℕ) × Makes (view caller.old.pass) (view caller.new.pass) (own_load (view caller.old.pass).own own 1 n ∷ [])) }
     ensures stock { IfSome result (λ _. (had is_spare (view caller.old.pass).own ≡ had is_spare (view caller.new.pass).own + 1) × ((view caller.new.pass).own.moves.drawn ≡ (view caller.old.pass).own.moves.drawn)) }
+    ensures hand { IfSome result (λ _. in_hand (view caller.new.pass).own ≡ in_hand (view caller.old.pass).own + 1) }
 {
     let first = caller.spare.head?;
     let (own, next) = table.take_spare(&mut caller.pass, first);
@@ -60,6 +62,7 @@ pub(crate) fn set_spare<S: Shape, R: Scheme>(
     ensures owns { KeepsOwnBut own.index (view caller.old.pass) (view caller.new.pass) }
     ensures made { (found : ℕ) × (left : ℕ) × Makes (view caller.old.pass) (view caller.new.pass) (own_store (view caller.old.pass).own own 1 found left ∷ []) }
     ensures stock { (had is_spare (view caller.new.pass).own ≡ had is_spare (view caller.old.pass).own + 1) × ((view caller.new.pass).own.moves.drawn ≡ (view caller.old.pass).own.moves.drawn) }
+    ensures hand { in_hand (view caller.new.pass).own + 1 ≡ in_hand (view caller.old.pass).own }
 {
     let r = table.set_aside(&mut caller.pass, own, caller.spare.head);
     let _index = r.index;
@@ -84,6 +87,7 @@ pub(crate) fn put_away<S: Shape, R: Scheme>(
     ensures owns { KeepsOwn (view caller.old.pass) (view caller.new.pass) }
     ensures stock { KeepsStock (view caller.old.pass).own (view caller.new.pass).own }
     ensures does { (f : Freed) × R.puts_away (setup_of table.now) (view caller.old.pass).own taken f (view caller.new.pass).own }
+    ensures hand { in_hand (view caller.new.pass).own + 1 ≡ in_hand (view caller.old.pass).own }
 {
     let left = R::put_away(
         table,
@@ -114,6 +118,7 @@ fn draw<S: Shape, R: Scheme, A: Allocator>(
     ensures drawn { MatchResult result (λ r. HasDrawn (view caller.new.pass) r) (λ _. Unit {0}) }
     ensures moves { MatchResult result (λ _. (view caller.new.pass).own.moves.drawn ≡ (view caller.old.pass).own.moves.drawn + 1) (λ _. (view caller.new.pass).own.moves.drawn ≡ (view caller.old.pass).own.moves.drawn) }
     ensures does { MatchResult result (λ r. A.draws (view caller.old.pass) r (view caller.new.pass)) (λ none. A.refuses (view caller.old.pass) none.found (view caller.new.pass)) }
+    ensures hand { MatchResult result (λ _. in_hand (view caller.new.pass).own ≡ in_hand (view caller.old.pass).own + 1) (λ _. in_hand (view caller.new.pass).own ≡ in_hand (view caller.old.pass).own) }
 {
     let r = A::draw(table, &mut caller.pass)?;
     caller.moved.drawn = raised(caller.moved.drawn, 1);
@@ -133,6 +138,7 @@ fn take_free<S: Shape, R: Scheme>(table: &Table<S, R>, caller: &mut Caller<S, R>
     ensures drawn { IfSome result (λ r. HasDrawn (view caller.new.pass) r) }
     ensures again { IfSome result (λ r. WasFree (view caller.old.pass).own r × ((view caller.new.pass).own.moves.drawn ≡ (view caller.old.pass).own.moves.drawn)) }
     ensures made { IfSome result (λ r. (n : ℕ) × Makes (view caller.old.pass) (view caller.new.pass) (own_load (view caller.old.pass).own r 1 n ∷ [])) }
+    ensures hand { IfSome result (λ _. in_hand (view caller.new.pass).own ≡ in_hand (view caller.old.pass).own + 1) }
 {
     let first = caller.free.head?;
     let (r, next) = table.take_free(&mut caller.pass, first);
@@ -155,6 +161,7 @@ fn take_chain<S: Shape, R: Scheme, P: Pool>(table: &Table<S, R>, caller: &mut Ca
     ensures made { (steps : List Step) × Makes (view caller.old.pass) (view caller.new.pass) steps }
     ensures some { result ≡ true → Takes P.SHELVES P.busy (view caller.old.pass) (view caller.new.pass) (Took caller.new.free) }
     ensures none { result ≡ false → Takes P.SHELVES P.busy (view caller.old.pass) (view caller.new.pass) FoundNone × (caller.new.free ≡ caller.old.free) }
+    ensures hand { in_hand (view caller.new.pass).own ≡ in_hand (view caller.old.pass).own }
 {
     match P::take(table, &mut caller.pass) {
         Taken::Some(chain) => {
@@ -180,6 +187,7 @@ fn hand_out<S: Shape, R: Scheme>(table: &Table<S, R>, caller: &mut Caller<S, R>,
     ensures own { IsOwnOf (view caller.new.pass) result }
     ensures record { result ≡ r }
     ensures does { (d : Book) × (birth : ℕ) × R.bears (setup_of table.now) (view caller.old.pass).own birth d × HandsOut r birth d (view caller.new.pass).own }
+    ensures hand { in_hand (view caller.new.pass).own ≡ in_hand (view caller.old.pass).own }
 {
     let birth = R::birth(table, &mut caller.pass, &mut caller.local);
     table.hand_out(&mut caller.pass, r, birth)
@@ -204,6 +212,7 @@ fn take_next<S: Shape, R: Scheme, A: Allocator, P: Pool>(
     ensures did { MatchResult result
         (λ r. Gets (manner R.enters R.leaves R.bears R.reaches R.puts_away A.draws A.refuses P.SHELVES P.busy) (setup_of table.now) (view caller.old.pass).own r (view caller.new.pass).own)
         (λ none. FindsNone (manner R.enters R.leaves R.bears R.reaches R.puts_away A.draws A.refuses P.SHELVES P.busy) (setup_of table.now) (view caller.old.pass).own none.found (view caller.new.pass).own) }
+    ensures hand { MatchResult result (λ _. in_hand (view caller.new.pass).own ≡ in_hand (view caller.old.pass).own + 1) (λ _. in_hand (view caller.new.pass).own ≡ in_hand (view caller.old.pass).own) }
 {
     if let Some(r) = take_free(table, caller) {
         return Ok(r);
@@ -233,8 +242,8 @@ pub(crate) fn fresh<S: Shape, R: Scheme, A: Allocator, P: Pool>(
     ensures owns { KeepsOwn (view caller.old.pass) (view caller.new.pass) }
     ensures own { MatchResult result (λ own. IsOwnOf (view caller.new.pass) own) (λ _. Unit {0}) }
     ensures did { MatchResult result
-        (λ own. TakesRecord (manner R.enters R.leaves R.bears R.reaches R.puts_away A.draws A.refuses P.SHELVES P.busy) (setup_of table.now) (view caller.old.pass).own own (view caller.new.pass).own)
-        (λ none. FindsNone (manner R.enters R.leaves R.bears R.reaches R.puts_away A.draws A.refuses P.SHELVES P.busy) (setup_of table.now) (view caller.old.pass).own none.found (view caller.new.pass).own) }
+        (λ own. Does (manner R.enters R.leaves R.bears R.reaches R.puts_away A.draws A.refuses P.SHELVES P.busy) (setup_of table.now) (took own) (view caller.old.pass).own (view caller.new.pass).own)
+        (λ none. Does (manner R.enters R.leaves R.bears R.reaches R.puts_away A.draws A.refuses P.SHELVES P.busy) (setup_of table.now) (refused none.found) (view caller.old.pass).own (view caller.new.pass).own) }
 {
     if let Some(own) = take_spare(table, caller) {
         return Ok(own);

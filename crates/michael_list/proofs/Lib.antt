@@ -9,3 +9,4 @@ pub mod Ends
 mod Inserted
 mod Marking
 pub mod Stock
+pub mod Hands

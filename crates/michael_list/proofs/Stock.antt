@@ -144,7 +144,7 @@ module _ (m : Manner) (k : Setup) where
 
   -- the try has a record, got by it or by an earlier one
   record_taken : (own : RefParts) (hand : Option RefParts) (gs : List Event) (a b c : Book) → HasRecord own hand gs → HasTaken hand a b → Trail m k gs b c → TookOne a c
-  record_taken own _ _ a b c HasRecord.gets h t = then_took h (took_then (takes_one b t.0 own t.1) (subst (KeepsStock t.0) t.2 (same_stock t.0)))
+  record_taken own _ _ a b c HasRecord.gets h t = then_took h (took_then (takes_one b t.0 own t.1.acts) (subst (KeepsStock t.0) t.2 (same_stock t.0)))
   record_taken own _ _ a b c HasRecord.has h t = subst (TookOne a) t h
 
   insertings_take : {root key hops : ℕ} {hand : Option RefParts} {es : List Event} (b c : Book) → Insertings root key hops hand es → Trail m k es b c → HasTaken hand b c
@@ -164,7 +164,7 @@ module _ (m : Manner) (k : Setup) where
   -- a record that is left over goes back
   back_gives : (hand : Option RefParts) (b c d : Book) → HasTaken hand b c → Trail m k (back hand) c d → GaveBack b d
   back_gives None b c d h t = kept_gave (subst (KeepsStock b) t h)
-  back_gives (Some own) b c d h t = subst (GaveBack b) t.2 (took_gave h t.1.1 t.1.2)
+  back_gives (Some own) b c d h t = subst (GaveBack b) t.2 (took_gave h t.1.acts.1 t.1.acts.2)
 
   -- what an insertion leaves of the stock, by its answer
   abbrev pub Leaves : InsertAnswer → Book → Book → Type 0
@@ -185,7 +185,7 @@ module _ (m : Manner) (k : Setup) where
       let p = parts m k (es ++ fs) (refused n ∷ []) b c t in
       let first = tried_taken b p.0 tries walk p.1 in
       let last = subst (KeepsStock p.2.0) p.2.2 (same_stock p.2.0) in
-      (stock_then (stock_then first p.2.1.stock) last, p.0, p.2.0, first, p.2.2, p.2.1)
+      (stock_then (stock_then first p.2.1.acts.stock) last, p.0, p.2.0, first, p.2.2, p.2.1.acts)
   inserts_leave b c (Inserts.again {hand = hand} {es = es} {fs = fs} tries walk all) t =
       let p = parts m k (es ++ fs) (back hand) b c t in
       back_gives hand b p.0 c (tried_taken b p.0 tries walk p.1) p.2

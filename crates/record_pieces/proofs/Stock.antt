@@ -96,20 +96,20 @@ hands_add r birth b c h =
 
 module _ (m : Manner) (k : Setup) where
   pub keeps_one : (e : Event) (b c : Book) → Keeps e → Does m k e b c → KeepsStock b c
-  keeps_one begun b c keeps d = d.1
-  keeps_one (hopped place at f h) b c keeps d = d.1
-  keeps_one (keyed r key) b c keeps d = d.1
-  keeps_one (looked at f link) b c keeps d = d.1
-  keeps_one (exchanged at f expected new call refusal) b c keeps d = d.1
-  keeps_one (published at f expected own call refusal) b c keeps d = d.1
-  keeps_one (unlinked at f gone new refusal) b c keeps d = d.1
+  keeps_one begun b c keeps d = d.acts.1
+  keeps_one (hopped place at f h) b c keeps d = d.acts.1
+  keeps_one (keyed r key) b c keeps d = d.acts.1
+  keeps_one (looked at f link) b c keeps d = d.acts.1
+  keeps_one (exchanged at f expected new call refusal) b c keeps d = d.acts.1
+  keeps_one (published at f expected own call refusal) b c keeps d = d.acts.1
+  keeps_one (unlinked at f gone new refusal) b c keeps d = d.acts.1
   keeps_one (took r) b c keeps d = absurd keeps
-  keeps_one (refused n) b c keeps d = d.stock
-  keeps_one (stored_own r f payload) b c keeps d = d.1
+  keeps_one (refused n) b c keeps d = d.acts.stock
+  keeps_one (stored_own r f payload) b c keeps d = d.acts.1
   keeps_one (gave_back r) b c keeps d = absurd keeps
-  keeps_one (retired r) b c keeps d = d.1
-  keeps_one (placed call reply) b c keeps d = d.1
-  keeps_one ended b c keeps d = d.1
+  keeps_one (retired r) b c keeps d = d.acts.1
+  keeps_one (placed call reply) b c keeps d = d.acts.1
+  keeps_one ended b c keeps d = d.acts.1
 
   -- so a trail of such events leaves the stock as it was
   pub keeps_all : (es : List Event) (b c : Book) → AllKeep es → Trail m k es b c → KeepsStock b c
@@ -132,20 +132,20 @@ module _ (m : Manner) (k : Setup) where
     takes_add b r c (handed d e birth none gets bears hands same left) = adds_both b d c (gets_add b r d gets) (adds_both d e c (only.bears d e birth bears) (hands_add r birth e c hands))
 
     adds_one : (e : Event) (b c : Book) → Does m k e b c → AddsSteps b c
-    adds_one begun b c d = only.enters b c d.0.0 d.0.1
-    adds_one (hopped place at f h) b c d = only.reaches b c place at f h d.0
-    adds_one (keyed r key) b c d = one_adds b c _ d.0.2
-    adds_one (looked at f link) b c d = one_adds b c _ d.0.2
-    adds_one (exchanged at f expected new call refusal) b c d = exchange_adds k at f expected new refusal b c d.0
-    adds_one (published at f expected own call refusal) b c d = exchange_adds k at f expected _ refusal b c d.0
-    adds_one (unlinked at f gone new refusal) b c d = exchange_adds k at f _ new refusal b c d.0
-    adds_one (took r) b c d = takes_add b r c d
-    adds_one (refused n) b c d = adds_both b d.between c (only.takes b d.between false d.took) (only.refuses d.between c n d.refused)
-    adds_one (stored_own r f payload) b c d = one_adds b c _ d.0.1
-    adds_one (gave_back r) b c d = one_adds b c _ d.0.2
-    adds_one (retired r) b c d = only.puts_away b c r d.0.0 d.0.1
-    adds_one (placed call reply) b c d = one_adds b c _ d.0.1
-    adds_one ended b c d = only.leaves b c d.0
+    adds_one begun b c d = only.enters b c d.acts.0.0 d.acts.0.1
+    adds_one (hopped place at f h) b c d = only.reaches b c place at f h d.acts.0
+    adds_one (keyed r key) b c d = one_adds b c _ d.acts.0.2
+    adds_one (looked at f link) b c d = one_adds b c _ d.acts.0.2
+    adds_one (exchanged at f expected new call refusal) b c d = exchange_adds k at f expected new refusal b c d.acts.0
+    adds_one (published at f expected own call refusal) b c d = exchange_adds k at f expected _ refusal b c d.acts.0
+    adds_one (unlinked at f gone new refusal) b c d = exchange_adds k at f _ new refusal b c d.acts.0
+    adds_one (took r) b c d = takes_add b r c d.acts
+    adds_one (refused n) b c d = adds_both b d.acts.between c (only.takes b d.acts.between false d.acts.took) (only.refuses d.acts.between c n d.acts.refused)
+    adds_one (stored_own r f payload) b c d = one_adds b c _ d.acts.0.1
+    adds_one (gave_back r) b c d = one_adds b c _ d.acts.0.2
+    adds_one (retired r) b c d = only.puts_away b c r d.acts.0.0 d.acts.0.1
+    adds_one (placed call reply) b c d = one_adds b c _ d.acts.0.1
+    adds_one ended b c d = only.leaves b c d.acts.0
 
     pub adds_all : (es : List Event) (b c : Book) → Trail m k es b c → AddsSteps b c
     adds_all [] b c t = subst (AddsSteps b) t (adds_none b)

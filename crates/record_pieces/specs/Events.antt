@@ -22,6 +22,7 @@ use Rattle.record_table.specs.declared.nodes.Node.{Node}
 use Rattle.record_table.specs.Nodes.{origin}
 use Rattle.reclaim_api.specs.declared.holding.Holding.{Holding}
 use Rattle.reclaim_api.specs.Frames.{had}
+use Rattle.record_pieces.specs.Hands.{in_hand}
 use Rattle.record_pieces.specs.Manners.{Manner}
 
 pub data Event : Type 0 where
@@ -48,6 +49,45 @@ pub data Event : Type 0 where
   -- a read was placed
   placed : Call → Bool → Event
   ended : Event
+
+-- one where the exchange was made
+abbrev pub one_if_made : Option LinkParts → ℕ
+one_if_made None = 1
+one_if_made (Some link) = 0
+
+-- how many records come into the caller's hand
+abbrev pub gained : Event → ℕ
+gained begun = 0
+gained (hopped p at f h) = 0
+gained (keyed r key) = 0
+gained (looked at f link) = 0
+gained (exchanged at f expected new call refusal) = 0
+gained (published at f expected own call refusal) = 0
+gained (unlinked at f gone new refusal) = one_if_made refusal
+gained (took r) = 1
+gained (refused n) = 0
+gained (stored_own r f payload) = 0
+gained (gave_back r) = 0
+gained (retired r) = 0
+gained (placed call reply) = 0
+gained ended = 0
+
+-- and how many leave it
+abbrev pub dropped : Event → ℕ
+dropped begun = 0
+dropped (hopped p at f h) = 0
+dropped (keyed r key) = 0
+dropped (looked at f link) = 0
+dropped (exchanged at f expected new call refusal) = 0
+dropped (published at f expected own call refusal) = one_if_made refusal
+dropped (unlinked at f gone new refusal) = 0
+dropped (took r) = 0
+dropped (refused n) = 0
+dropped (stored_own r f payload) = 0
+dropped (gave_back r) = 1
+dropped (retired r) = 1
+dropped (placed call reply) = 0
+dropped ended = 0
 
 -- one step more
 abbrev pub OneStep : Book → Step → Book → Type 0
@@ -114,18 +154,23 @@ module _ (m : Manner) (k : Setup) where
     pub stock : KeepsStock b c
 
   -- the steps of an event, and what it leaves of the caller's stock
-  abbrev pub Does : Event → Book → Book → Type 0
-  Does begun b c = ((f : Freed) × m.enters k b f c) × KeepsStock b c
-  Does (hopped p at f h) b c = m.reaches k p at f b h c × KeepsStock b c
-  Does (keyed r key) b c = ((n : ℕ) × (key ≡ key_in n) × OneStep b (key_load b r n) c) × KeepsStock b c
-  Does (looked at f link) b c = ((n : ℕ) × (link ≡ link_in n) × OneStep b (node_step b Load at f n n) c) × KeepsStock b c
-  Does (exchanged at f expected new call refusal) b c = Exchanges k at f expected new refusal b c × KeepsStock b c
-  Does (published at f expected own call refusal) b c = Exchanges k at f expected (clean own) refusal b c × KeepsStock b c
-  Does (unlinked at f gone new refusal) b c = Exchanges k at f (clean gone) new refusal b c × KeepsStock b c
-  Does (took r) b c = Takes b r c
-  Does (refused n) b c = FindsNone b n c
-  Does (stored_own r f payload) b c = ((found : ℕ) × OneStep b (own_store b r f found (packed_number r.generation payload)) c) × KeepsStock b c
-  Does (gave_back r) b c = ((found : ℕ) × (left : ℕ) × OneStep b (own_store b r 1 found left) c) × (had is_spare c ≡ had is_spare b + 1) × (c.moves.drawn ≡ b.moves.drawn)
-  Does (retired r) b c = ((f : Freed) × m.puts_away k b r f c) × KeepsStock b c
-  Does (placed call reply) b c = ((n : ℕ) × OneStep b (placing_load b n) c) × KeepsStock b c
-  Does ended b c = m.leaves k b c × KeepsStock b c
+  abbrev pub Acts : Event → Book → Book → Type 0
+  Acts begun b c = ((f : Freed) × m.enters k b f c) × KeepsStock b c
+  Acts (hopped p at f h) b c = m.reaches k p at f b h c × KeepsStock b c
+  Acts (keyed r key) b c = ((n : ℕ) × (key ≡ key_in n) × OneStep b (key_load b r n) c) × KeepsStock b c
+  Acts (looked at f link) b c = ((n : ℕ) × (link ≡ link_in n) × OneStep b (node_step b Load at f n n) c) × KeepsStock b c
+  Acts (exchanged at f expected new call refusal) b c = Exchanges k at f expected new refusal b c × KeepsStock b c
+  Acts (published at f expected own call refusal) b c = Exchanges k at f expected (clean own) refusal b c × KeepsStock b c
+  Acts (unlinked at f gone new refusal) b c = Exchanges k at f (clean gone) new refusal b c × KeepsStock b c
+  Acts (took r) b c = Takes b r c
+  Acts (refused n) b c = FindsNone b n c
+  Acts (stored_own r f payload) b c = ((found : ℕ) × OneStep b (own_store b r f found (packed_number r.generation payload)) c) × KeepsStock b c
+  Acts (gave_back r) b c = ((found : ℕ) × (left : ℕ) × OneStep b (own_store b r 1 found left) c) × (had is_spare c ≡ had is_spare b + 1) × (c.moves.drawn ≡ b.moves.drawn)
+  Acts (retired r) b c = ((f : Freed) × m.puts_away k b r f c) × KeepsStock b c
+  Acts (placed call reply) b c = ((n : ℕ) × OneStep b (placing_load b n) c) × KeepsStock b c
+  Acts ended b c = m.leaves k b c × KeepsStock b c
+
+  -- an event does so, and of records in hand the caller has more by those that came, and fewer by those that left
+  pub record Does (e : Event) (b c : Book) : Type 0 where
+    pub acts : Acts e b c
+    pub hand : in_hand c + dropped e ≡ in_hand b + gained e

@@ -1,3 +1,4 @@
+pub mod Hands
 pub mod Manners
 pub mod Events
 pub mod Trails

@@ -8,3 +8,6 @@ pub mod SetRuns
 pub mod Unreclaimed
 pub mod Drawing
 pub mod NeverFull
+pub mod Hands
+pub mod Counts
+pub mod Totals

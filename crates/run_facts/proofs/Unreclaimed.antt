@@ -33,7 +33,7 @@ use Rattle.set_runs.specs.Runs.{IsSetRun}
 use Rattle.run_facts.specs.Unreclaimed.{IsUnreclaimed}
 
 -- a sum of nothing
-sum_zero : {X : Type 0} (f : X → ℕ) (xs : List X) → ((i : ℕ) (x : X) → At xs i x → f x ≡ 0) → sum_by f xs ≡ 0
+pub sum_zero : {X : Type 0} (f : X → ℕ) (xs : List X) → ((i : ℕ) (x : X) → At xs i x → f x ≡ 0) → sum_by f xs ≡ 0
 sum_zero f [] each = refl
 sum_zero f (x ∷ xs) each = omega (arith, sum_by-cons f x xs, each 0 x refl, sum_zero f xs (λ i y at. each (suc i) y at))
 

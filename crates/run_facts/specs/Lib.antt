@@ -3,3 +3,4 @@ pub mod Phased
 pub mod Fullness
 pub mod Unshared
 pub mod Unreclaimed
+pub mod Counts

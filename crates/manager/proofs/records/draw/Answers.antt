@@ -8,7 +8,7 @@ use Rattle.record_memory.specs.declared.books.Standing.TheVariants.{Own, Spare, 
 use Rattle.record_table.specs.Handles.{view}
 use Rattle.reclaim_api.proofs.Kept.{chain_stays}
 use Rattle.manager.proofs.Stay.{inside_after, chains_after}
-use Rattle.manager.proofs.Drawing.{draws_limbo, draws_stay, draws_idle, draws_makes}
+use Rattle.manager.proofs.Drawing.{new_hand, draws_limbo, draws_stay, draws_idle, draws_makes}
 use Rattle.manager.proofs.Owns.{owns_stay}
 use Rattle.manager.proofs.records.draw.Goals as goal
 
@@ -51,3 +51,6 @@ returns-clause-owns g c = let e = c.draw.ensures in owns_stay _ _ (ap (λ (k : S
 
 pub returns-clause-moves : goal.returns-clause-moves
 returns-clause-moves g c = ap (λ (m : Moves). m.drawn) c.in_ok-r.ensures.rest.moves
+
+pub returns-clause-hand : goal.returns-clause-hand
+returns-clause-hand g c = let e = c.in_ok-r.ensures in new_hand (view c.args.caller.now.pass) (view c.draw.new.pass) c.in_ok-r.r e.new e.rest

@@ -1,6 +1,7 @@
-use Rattle.std.proofs.Common.{◌≡◌, None, ap, sym, ◌∙◌, subst}
+use Rattle.std.proofs.Common.{◌≡◌, None, ap, sym, ◌∙◌, subst, arith}
 use Rattle.record_table.specs.Handles.{setup_of, view}
 use Rattle.record_pieces.specs.Manners.{Manner}
+use Rattle.record_pieces.specs.Hands.{in_hand}
 use Rattle.record_pieces.specs.Events.{Gets, Takes, from_spare, handed}
 use Rattle.row_words.specs.Refs.{RefParts}
 use Rattle.row_words.specs.declared.links.Chain.{Chain}
@@ -12,7 +13,7 @@ use Rattle.manager.proofs.Stocks.{no_spare}
 use Rattle.manager.proofs.records.fresh.Goals as goal
 
 pub returns-in-Some-clause-did : goal.returns-in-Some-clause-did
-returns-in-Some-clause-did g c = let e = c.in-Some.ensures in from_spare e.made.0 e.made.1.appended e.stock.0 e.stock.1
+returns-in-Some-clause-did g c = let e = c.in-Some.ensures in record { acts = from_spare e.made.0 e.made.1.appended e.stock.0 e.stock.1; hand = omega (arith, e.hand) }
 
 pub returns-in-Some-clause-keeps : goal.returns-in-Some-clause-keeps
 returns-in-Some-clause-keeps g c = keeps_after _ _ c.take_spare.ensures.pass _ c.in-Some.ensures.made.1
@@ -26,8 +27,11 @@ returns-clause-did g c = let k = setup_of c.args.table.now in let h = c.hand_out
     let gets = subst (λ x. Gets m k (view x.pass).own c.in_ok-r.r (view c.take_next.new.caller.pass).own) c.in_default.ensures.none.0 c.in_ok-r.ensures.did in
     let a = c.args.caller.now in let none = c.in_default.ensures.none in let next = c.take_next.new.caller in let stock = c.hand_out.ensures.stock in
     let left : next.spare.head ≡ None = ap (λ (x : Chain). x.head) c.take_next.ensures.spare ∙ ap (λ x. x.spare.head) none.0 ∙ none.1 in
-    subst (λ (z : RefParts). Takes m k b z w) (sym c.hand_out.ensures.record)
-    (handed _ h.0 h.1 (no_spare _ a.pass a.local a.free a.spare c.requires.caller.chains none.1) gets h.2 h.3 stock (stock.spare ∙ no_spare _ next.pass next.local next.free next.spare c.take_next.ensures.caller.chains left))
+    let before : in_hand (view c.take_spare.new.caller.pass).own ≡ in_hand b = ap (λ x. in_hand (view x.pass).own) none.0 in record {
+      acts = subst (λ (z : RefParts). Takes m k b z w) (sym c.hand_out.ensures.record)
+          (handed _ h.0 h.1 (no_spare _ a.pass a.local a.free a.spare c.requires.caller.chains none.1) gets h.2 h.3 stock (stock.spare ∙ no_spare _ next.pass next.local next.free next.spare c.take_next.ensures.caller.chains left));
+      hand = omega (arith, c.hand_out.ensures.hand, c.in_ok-r.ensures.hand, before);
+    }
 
 pub returns-clause-keeps : goal.returns-clause-keeps
 returns-clause-keeps g c = let m = c.take_next.ensures.made in

@@ -9,8 +9,9 @@ use Rattle.record_rule.specs.Makes.{Makes}
 use Rattle.record_rule.proofs.Makes.{handed_makes, handed_idle}
 use Rattle.record_rule.specs.HandingOut.{HasDrawn}
 use Rattle.reclaim_api.proofs.Kept.{chain_stays}
+use Rattle.record_pieces.proofs.Hands.{hand_left}
 use Rattle.manager.proofs.Stay.{chains_stay, inside_after, keeps_after, chains_after, answers_after}
-use Rattle.manager.proofs.Handed.{still_drawn, handed_limbo, handed_moves, handed_stay}
+use Rattle.manager.proofs.Handed.{handed_hand, still_drawn, handed_limbo, handed_moves, handed_stay}
 use Rattle.reclaim_api.specs.Frames.{in_away}
 use Rattle.record_memory.specs.declared.books.Moves.{Moves}
 use Rattle.manager.proofs.MoveCounts.{same_moves, counted_still}
@@ -58,3 +59,6 @@ returns-clause-stock g c = let a = c.args.caller.now in let b = c.birth-birth.ne
   spare = spares_kept _ a.pass z a.local b.local a.free a.spare a.free a.spare c.requires.caller.chains (returns-clause-caller g c).chains refl;
   drawn = (handed_moves (view b.pass) (view z) c.args.r c.birth-birth.result (drawn g c) c.hand_out.ensures.steps).drawn ∙ ap (λ (m : Moves). m.drawn) c.birth-birth.ensures.rest.moves;
 }
+
+pub returns-clause-hand : goal.returns-clause-hand
+returns-clause-hand g c = let b = c.birth-birth.new in handed_hand (view b.pass) (view c.hand_out.new.pass) c.args.r c.birth-birth.result (drawn g c) c.hand_out.ensures.steps ∙ hand_left (view c.args.caller.now.pass) (view b.pass) c.birth-birth.ensures.rest

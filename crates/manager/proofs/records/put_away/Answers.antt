@@ -5,6 +5,7 @@ use Rattle.manager.proofs.MoveCounts.{freed_is, spent_is}
 use Rattle.record_memory.specs.declared.books.Setup.{Setup}
 use Rattle.record_table.specs.Handles.{view}
 use Rattle.reclaim_api.proofs.Kept.{spare_rest_but, own_rest_but}
+use Rattle.record_pieces.proofs.Hands.{hand_rest_but}
 use Rattle.manager.proofs.Stay.{chains_freed}
 use Rattle.manager.proofs.Stocks.{spares_kept}
 use Rattle.manager.proofs.records.put_away.Goals as goal
@@ -32,3 +33,6 @@ returns-clause-stock g c = let a = c.args.caller.now in let b = c.put_away-left.
   spare = spares_kept _ a.pass b.pass a.local b.local a.free a.spare b.free a.spare c.requires.caller.chains (returns-clause-caller g c).chains refl;
   drawn = ap (λ (m : Moves). m.drawn) c.put_away-left.ensures.rest.moves;
 }
+
+pub returns-clause-hand : goal.returns-clause-hand
+returns-clause-hand g c = hand_rest_but (view c.args.caller.now.pass) (view c.put_away-left.new.pass) c.args.taken c.requires.taken.0 c.requires.taken.1 c.put_away-left.ensures.rest

@@ -7,7 +7,7 @@ use Rattle.manager.proofs.Stay.{inside_after, chains_after}
 use Rattle.record_memory.specs.declared.books.Moves.{Moves}
 use Rattle.manager.proofs.MoveCounts.{same_moves, counted_still}
 use Rattle.manager.proofs.Stocks.{spares_in}
-use Rattle.manager.proofs.Spares.{room_for, pushed_makes, pushed_limbo, pushed_moves, pushed_free, pushed_owns, pushed_list}
+use Rattle.manager.proofs.Spares.{room_for, pushed_makes, pushed_limbo, pushed_moves, pushed_free, pushed_owns, pushed_hand, pushed_list}
 use Rattle.manager.proofs.records.set_spare.Goals as goal
 
 pub overflow_add-caller : goal.overflow_add-caller
@@ -46,3 +46,9 @@ returns-clause-stock g c = let a = c.args.caller.now in let q = c.set_aside-r.ne
       omega arith,
       ap (λ (m : Moves). m.drawn) (pushed_moves (view a.pass) (view q) a.spare after c.args.own c.requires.own.0 c.requires.caller.chains.spares c.requires.own.1 ref e.step head refl),
     )
+
+pub returns-clause-hand : goal.returns-clause-hand
+returns-clause-hand g c = let a = c.args.caller.now in let e = c.set_aside-r.ensures in
+    let after : Chain = record { head = Some c.set_aside-r.result; count = a.spare.count + 1 } in
+    let ref : IsRef c.args.own = subst IsRef (c.r.view_is ∙ e.record) c.r.invariant in let head : after.head ≡ Some c.args.own = ap (λ (z : RefParts). Some z) e.record in
+    pushed_hand (view a.pass) (view c.set_aside-r.new.pass) a.spare after c.args.own c.requires.own.0 c.requires.caller.chains.spares c.requires.own.1 ref e.step head refl

@@ -7,10 +7,11 @@ use Rattle.record_rule.proofs.Makes.{idle_mine}
 use Rattle.pool.specs.Calls.{Takes}
 use Rattle.reclaim_api.specs.Frames.{in_away}
 use Rattle.reclaim_api.proofs.Kept.{chain_stays}
+use Rattle.record_pieces.proofs.Hands.{hand_mine}
 use Rattle.manager.proofs.Empty.{none_in}
 use Rattle.manager.proofs.Stay.{mine_stays, inside_after, chains_after}
 use Rattle.manager.proofs.MoveCounts.{same_moves, counted_still}
-use Rattle.manager.proofs.Gaining.{gained_stays, gained_limbo, gained_idle}
+use Rattle.manager.proofs.Gaining.{gained_hand, gained_stays, gained_limbo, gained_idle}
 use Rattle.manager.proofs.Owns.{owns_mine, owns_stay}
 use Rattle.manager.proofs.records.take_chain.Goals as goal
 
@@ -43,3 +44,10 @@ returns-in-Some-clause-owns g c = let v : View = view c.args.caller.now.pass in 
 pub returns-in-None-clause-owns : goal.returns-in-None-clause-owns
 returns-in-None-clause-owns g c = let v : View = view c.args.caller.now.pass in let w : View = view c.take.new.pass in let e = c.take.ensures in let t = subst (Takes g.P.Pool.SHELVES g.P.Pool.busy v w) c.in-None.is e.takes in
     owns_mine v w (ap (λ (k : Setup). k.records) e.pass.setup) t.answer.0
+
+pub returns-in-Some-clause-hand : goal.returns-in-Some-clause-hand
+returns-in-Some-clause-hand g c = let v : View = view c.args.caller.now.pass in let w : View = view c.take.new.pass in let t = subst (Takes g.P.Pool.SHELVES g.P.Pool.busy v w) c.in-Some.is c.take.ensures.takes in
+    gained_hand v w c.in-Some.chain t.answer.0 t.answer.1
+
+pub returns-in-None-clause-hand : goal.returns-in-None-clause-hand
+returns-in-None-clause-hand g c = let v : View = view c.args.caller.now.pass in let w : View = view c.take.new.pass in let t = subst (Takes g.P.Pool.SHELVES g.P.Pool.busy v w) c.in-None.is c.take.ensures.takes in hand_mine v.own w.own t.answer.0

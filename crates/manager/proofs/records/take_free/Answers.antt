@@ -9,7 +9,7 @@ use Rattle.record_rule.specs.Makes.{Makes}
 use Rattle.record_table.specs.Handles.{view}
 use Rattle.manager.proofs.Stay.{inside_after, chains_after}
 use Rattle.manager.proofs.Pops.{pop_count}
-use Rattle.manager.proofs.Takings.{first_free, again_makes, again_away, again_spare, again_owns, again_rest}
+use Rattle.manager.proofs.Takings.{first_free, again_makes, again_away, again_spare, again_owns, again_hand, again_rest}
 use Rattle.manager.proofs.records.take_free.Goals as goal
 
 pub take_free-r-requires-clause-free : goal.take_free-r-requires-clause-free
@@ -50,3 +50,8 @@ returns-clause-again g c = let v : View = view c.args.caller.now.pass in let e =
   record { share = was.share; known = ap (λ (i : ℕ). get_or v.own.mine (i - 1) None) e.index ∙ was.known; free = was.free; next = e.generation ∙ ap (λ (n : ℕ). n + 1) (sym was.generation) },
   ap (λ (x : View). x.own.moves.drawn) e.step.view,
 )
+
+pub returns-clause-hand : goal.returns-clause-hand
+returns-clause-hand g c = let a = c.args.caller.now in let v : View = view a.pass in let w : View = view c.take_free-r.new.pass in let r = c.in_ok-first.first in let e = c.take_free-r.ensures in
+    let after : Chain = record { head = c.take_free-r.result.1; count = a.free.count - 1 } in
+    again_hand v w a.free after r c.requires.caller.chains.frees c.in_ok-first.was e.step e.next refl

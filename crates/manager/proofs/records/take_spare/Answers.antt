@@ -10,7 +10,7 @@ use Rattle.manager.proofs.Stay.{inside_after, chains_after}
 use Rattle.manager.proofs.Pops.{row_next, pop_count}
 use Rattle.manager.proofs.MoveCounts.{counted_still}
 use Rattle.manager.proofs.Stocks.{spares_in}
-use Rattle.manager.proofs.Takings.{spare_as, first_spare, taken_makes, taken_limbo, taken_moves, taken_free, taken_owns, taken_rest}
+use Rattle.manager.proofs.Takings.{spare_as, first_spare, taken_makes, taken_limbo, taken_moves, taken_free, taken_owns, taken_hand, taken_rest}
 use Rattle.record_memory.specs.declared.books.Standing.TheVariants.{Spare}
 use Rattle.manager.proofs.records.take_spare.Goals as goal
 
@@ -55,3 +55,10 @@ returns-clause-stock g c = let a = c.args.caller.now in let q = c.take_spare-own
     let next = e.next row has ∙ sym (row_next Spare v w a.spare after r list head) in
     let before = spares_in _ a.pass a.local a.free a.spare h in let now = spares_in _ q a.local a.free after (returns-clause-caller g c).chains in let some = pop_count Spare v w a.spare after r list head in
     (omega arith, (taken_moves v w a.spare after r list head (get_or row 1 0) (e.step row has) next refl).drawn)
+
+pub returns-clause-hand : goal.returns-clause-hand
+returns-clause-hand g c = let a = c.args.caller.now in let v : View = view a.pass in let w : View = view c.take_spare-own.new.pass in let r = c.in_ok-first.first in let e = c.take_spare-own.ensures in
+    let list = c.requires.caller.chains.spares in let head = c.in_ok-first.was in
+    let after : Chain = record { head = c.take_spare-own.result.1; count = a.spare.count - 1 } in
+    let row : List ℕ = (spare_as v w a.spare after r list head).owns.share.words in let has : HasSpare v r row = first_spare v w a.spare after r list head in
+    let next = e.next row has ∙ sym (row_next Spare v w a.spare after r list head) in taken_hand v w a.spare after r list head (get_or row 1 0) (e.step row has) next refl

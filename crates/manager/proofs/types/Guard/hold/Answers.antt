@@ -1,5 +1,7 @@
+use Rattle.std.proofs.Common.{refl}
+use Rattle.record_pieces.proofs.Hands.{hand_left, does_still}
 use Rattle.manager.proofs.Stocks.{stock_left}
 use Rattle.manager.proofs.types.Guard.hold.Goals as goal
 
 pub returns-clause-did : goal.returns-clause-did
-returns-clause-did g c = let e = c.reach.ensures in (e.does, stock_left _ _ e.rest)
+returns-clause-did g c = let e = c.reach.ensures in does_still refl refl (hand_left _ _ e.rest) (e.does, stock_left _ _ e.rest)

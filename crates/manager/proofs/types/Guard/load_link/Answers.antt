@@ -1,6 +1,8 @@
-use Rattle.std.proofs.Common.{ap}
+use Rattle.std.proofs.Common.{refl, ap}
 use Rattle.record_memory.specs.declared.books.View.{View}
+use Rattle.record_table.specs.Handles.{view}
+use Rattle.record_pieces.proofs.Hands.{hand_mine, does_still}
 use Rattle.manager.proofs.types.Guard.load_link.Goals as goal
 
 pub returns-clause-did : goal.returns-clause-did
-returns-clause-did g c = let s = c.load_link.ensures.step in ((s.0, s.1, ap (λ (x : View). x.own.steps) s.2.view), c.load_link.ensures.stock)
+returns-clause-did g c = let s = c.load_link.ensures.step in does_still refl refl (hand_mine (view c.args.self.now.caller.now.pass).own (view c.load_link.new.caller.pass).own (ap (λ (x : View). x.own.mine) s.2.view)) ((s.0, s.1, ap (λ (x : View). x.own.steps) s.2.view), c.load_link.ensures.stock)

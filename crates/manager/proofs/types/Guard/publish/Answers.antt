@@ -3,4 +3,4 @@ use Rattle.manager.proofs.Dids.{publish_does}
 use Rattle.manager.proofs.types.Guard.publish.Goals as goal
 
 pub returns-clause-did : goal.returns-clause-did
-returns-clause-did g c = let e = c.publish.ensures in publish_does g.S.Shape.facts _ _ _ (sym e.pass.setup ∙ e.of.setup) e.stock c.args.node c.args.expected c.args.own c.args.decides c.publish.result e.step
+returns-clause-did g c = let e = c.publish.ensures in publish_does _ g.S.Shape.facts _ _ _ (sym e.pass.setup ∙ e.of.setup) e.stock c.args.node c.args.expected c.args.own _ c.args.decides c.requires.allowed.2 c.publish.result e.step
