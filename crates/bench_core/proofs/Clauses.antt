@@ -32,7 +32,7 @@ use Rattle.set_model.specs.declared.names.SetName.{SetName}
 use Rattle.set_model.specs.declared.names.SetName.TheVariants.{Plain}
 use Rattle.set_model.specs.Machine.{insertions_in}
 use Rattle.table_reports.specs.History.{IsOneHistory}
-use Rattle.table_reports.specs.Reports.{TellsKeys, RepliesAddUp}
+use Rattle.table_reports.specs.Reports.{TellsCounts, TellsKeys, RepliesAddUp}
 use Rattle.workload_text.proofs.Held.{some_is}
 use Rattle.workload_text.proofs.TextLength.{length-text_of-le}
 use Rattle.workload_text.specs.Limits.{Plan, joined}
@@ -345,6 +345,9 @@ module _ {S K : Type 0} {left : S → Option (List ℕ)} {source_faults : S → 
 
   pub adds_up : (r : Run) (closed : Closed) → ended.run ≡ Some r → r.closed ≡ Some closed → RepliesAddUp r.report
   adds_up r closed is there = (table_run r closed is there).3.adds_up
+
+  pub counts : (r : Run) (closed : Closed) → ended.run ≡ Some r → r.closed ≡ Some closed → TellsCounts closed r.report.counts
+  counts r closed is there = (table_run r closed is there).3.counts
 
   pub unreclaimed : (r : Run) → ended.run ≡ Some r → r.report.reclaimer ≡ Nothing → IsUnreclaimed r.report.counts
   unreclaimed r is nothing = elim (run r is).2 [

@@ -18,7 +18,7 @@ use Rattle.run_facts.specs.Unreclaimed.{IsUnreclaimed}
 use Rattle.run_facts.specs.Unshared.{NoneIsFull}
 use Rattle.workload_text.specs.Limits.{joined}
 use Rattle.table_reports.specs.History.{IsOneHistory}
-use Rattle.table_reports.specs.Reports.{TellsKeys, RepliesAddUp}
+use Rattle.table_reports.specs.Reports.{TellsCounts, TellsKeys, RepliesAddUp}
 
 -- how many calls insert, of all callers together
 abbrev pub all_insertions : List (List (List Call)) → ℕ
@@ -60,6 +60,7 @@ pub record IsHashRun (chosen : PlayWords) (lists : List (List (List Call))) (rep
   pub history : IsOneHistory michael lists report.callers closed
   pub keys : TellsKeys closed report
   pub adds_up : RepliesAddUp report
+  pub counts : TellsCounts closed report.counts
   -- a reply `full` has its cause
   pub caused : AreCaused (MakesPiece none_manner (none_setup (records_for chosen (all_insertions lists)) chosen.buckets (length lists))) (hops_for (records_for chosen (all_insertions lists)))
       (none_setup (records_for chosen (all_insertions lists)) chosen.buckets (length lists)) none.first lists (replies_to report.callers) played.bounds (closed_books closed)

@@ -19,7 +19,7 @@ ghost use Rattle.set_model.specs.declared.calls.Call.{Call};
 ghost use Rattle.set_model.specs.declared.names.ReclaimerName.TheVariants.{Nothing};
 ghost use Rattle.set_model.specs.declared.names.SetName.TheVariants.{Plain};
 ghost use Rattle.table_reports.specs.History.{IsOneHistory};
-ghost use Rattle.table_reports.specs.Reports.{TellsKeys, RepliesAddUp};
+ghost use Rattle.table_reports.specs.Reports.{TellsCounts, TellsKeys, RepliesAddUp};
 ghost use Rattle.workload_text.specs.Limits.{Plan, joined};
 ghost use Rattle.workload_text.specs.Text.{text_of};
 ghost use Rattle.bench_core.specs.Clauses.{AreAllowed, AreNotRead, AreRead, AreUnlawful, ArePlayed, GaveRefused, GaveSomeWorkload, HoldsWorkload, IsDone, IsQuiet, IsRunOf, IsStopped, LeaveEnough, NamesPair, WasGiven};
@@ -98,6 +98,7 @@ pub fn setbench<T: Threads + Wait + Sync, S: Source, K: Sink, G: Gate + Sync>(
         × (calls_of run.report.callers ≡ joined plan.lists) × IsOneHistory michael plan.lists run.report.callers closed }
     ensures keys { (run : Run) (closed : Closed) → result.run ≡ Some run → run.closed ≡ Some closed → TellsKeys closed run.report }
     ensures adds_up { (run : Run) (closed : Closed) → result.run ≡ Some run → run.closed ≡ Some closed → RepliesAddUp run.report }
+    ensures counts { (run : Run) (closed : Closed) → result.run ≡ Some run → run.closed ≡ Some closed → TellsCounts closed run.report.counts }
     ensures unreclaimed { (run : Run) → result.run ≡ Some run → run.report.reclaimer ≡ Nothing → IsUnreclaimed run.report.counts }
 
     // The callers of a trial share no key, so each is told what it would be told alone.

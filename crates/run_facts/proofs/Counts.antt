@@ -9,6 +9,7 @@ use Rattle.record_memory.specs.declared.books.Book.{Book}
 use Rattle.record_memory.specs.declared.books.Place.{Place}
 use Rattle.record_memory.specs.declared.books.Place.TheVariants.{Undrawn, Root, Linked, Shelved, Of}
 use Rattle.record_memory.specs.declared.books.Setup.{Setup}
+use Rattle.record_memory.specs.Memory.{Memory}
 use Rattle.record_memory.specs.declared.books.Standing.TheVariants.{Handing, Own, Spare, TakenOut, Limbo, Free, Spent}
 use Rattle.record_rule.specs.Counts.{drawn_as, retired_as, was_drawn, times_retired, lives_before}
 use Rattle.record_rule.specs.Facts.{At, ShapeFacts, CoverFacts}
@@ -17,6 +18,7 @@ use Rattle.record_rule.specs.PlaceCounts.{count_in, drawn_in, reused_in}
 use Rattle.record_rule.specs.Records.{Record}
 use Rattle.record_rule.specs.Standings.{is_linked, is_shelved, is_had, is_handing, is_own, is_spare, is_taken_out, is_limbo, is_free, is_spent}
 use Rattle.record_rule.specs.Taken.{generation_of}
+use Rattle.record_rule.specs.World.{Places}
 use Rattle.record_rule.proofs.CountingPlaces.{bit, in_cons, first_ones}
 use Rattle.record_table.specs.Closing.{closed_books, closed_setup}
 use Rattle.record_table.specs.declared.closing.Closed.{Closed}
@@ -146,6 +148,10 @@ module _ (setup : Setup) where
     in_cons (is_had is_spent) r rs,
   )
 
+-- none is on a shelf
+unshelved : (k : Setup) (l : List Record) (books : List Book) (m : Memory) → Places k l books m → count_in is_shelved l ≡ 0
+unshelved k l books m placed = first_ones (λ (r : Record). is_shelved r.place) l 0 (omega arith) (λ i r at less. absurd (omega (arith, less))) (λ i r at more. not_shelved r.place (placed.sound i r at).unshelved)
+
 module _ {s : ShapeFacts} {c : CoverFacts} {steps : Setup → Call → ℕ → Answer → Book → Book → Type 0} {budget : ℕ} {setup : Setup} {lists : List (List (List Call))} {replies : List (List Reply)} {counts : Counts} {closed : Closed}
     (run : IsSetRun s c steps budget setup lists replies counts closed) (none : LeavesNoneInHand (steps setup)) where
   abbrev records : List Record
@@ -161,7 +167,7 @@ module _ {s : ShapeFacts} {c : CoverFacts} {steps : Setup → Call → ℕ → A
   none_handing = omega (arith, none_in_hand, hand_sum records)
 
   none_shelved : count_in is_shelved records ≡ 0
-  none_shelved = first_ones (λ (r : Record). is_shelved r.place) records 0 (omega arith) (λ i r at less. absurd (omega (arith, less))) (λ i r at more. not_shelved r.place (run.fits.placed.sound i r at).unshelved)
+  none_shelved = unshelved k records (closed_books closed) _ run.fits.placed
 
   pub counts_fit : IsListSet s → CountsFit closed
   counts_fit list_set = let l = closed_lists list_set run.fits in let f = run.fits.counted in let m = run.fits.moved in record {
@@ -183,4 +189,6 @@ module _ {s : ShapeFacts} {c : CoverFacts} {steps : Setup → Call → ℕ → A
       callers_had is_spare k records (closed_books closed) _ run.fits.placed,
       callers_had is_spent k records (closed_books closed) _ run.fits.placed,
     );
+    freed = omega (arith, run.moves.sums.freed, unshelved k run.moves.records (closed_books closed) _ run.moves.placed);
+    limbo = run.moves.sums.limbo;
   }

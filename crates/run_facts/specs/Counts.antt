@@ -43,6 +43,9 @@ pub record CountsFit (c : Closed) : Type 0 where
   pub retired : sum_by retired_by (closed_books c) + marked_in records ≡ removals_in (history_of c)
   -- each record that was drawn is linked, or in limbo, free, spare or spent of some caller
   pub places : sum_by (had is_limbo) (closed_books c) + sum_by (had is_free) (closed_books c) + sum_by (had is_spare) (closed_books c) + sum_by (had is_spent) (closed_books c) + linked_in records ≡ sum_by drawn_by (closed_books c)
+  -- what was freed was handed out anew, or is free or spent; and what was retired was freed, or is in limbo
+  pub freed : sum_by freed_by (closed_books c) ≡ sum_by reused_by (closed_books c) + sum_by (had is_free) (closed_books c) + sum_by (had is_spent) (closed_books c)
+  pub limbo : sum_by (had is_limbo) (closed_books c) + sum_by freed_by (closed_books c) ≡ sum_by retired_by (closed_books c)
 
 -- The counts of a run are the sums over all callers: none of them stood still at its type's end
 pub record AreSumsOf (n : Counts) (books : List Book) : Type 0 where

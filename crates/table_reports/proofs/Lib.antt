@@ -1,3 +1,4 @@
 pub mod AddingUp
+pub mod Counting
 pub mod OneHistory
 pub mod Pairs

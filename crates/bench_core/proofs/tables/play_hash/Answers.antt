@@ -13,10 +13,14 @@ use Rattle.set_model.specs.declared.names.ReclaimerName.{ReclaimerName}
 use Rattle.set_model.specs.declared.names.ReclaimerName.TheVariants.{Nothing}
 use Rattle.set_model.specs.declared.names.SetName.{SetName}
 use Rattle.set_model.specs.declared.names.SetName.TheVariants.{Michael}
+use Rattle.michael_hash.proofs.Hands.{leaves_none_in_hand}
+use Rattle.run_facts.proofs.Counts.{counts_fit}
 use Rattle.run_facts.proofs.NeverFull.{never_full}
 use Rattle.run_facts.proofs.SetRuns.{run_full}
+use Rattle.run_facts.proofs.Totals.{counts_exact}
 use Rattle.run_facts.proofs.Unreclaimed.{unreclaimed}
 use Rattle.table_reports.proofs.AddingUp.{replies_add_up}
+use Rattle.table_reports.proofs.Counting.{tells_counts}
 use Rattle.table_reports.proofs.OneHistory.{one_history}
 use Rattle.table_reports.proofs.Pairs.{all_paired}
 use Rattle.bench_core.specs.declared.ending.Run.{Run}
@@ -49,6 +53,7 @@ returns g c =
       played = run;
       history = history;
       keys = told.keys;
+      counts = tells_counts closed report.counts (counts_fit run (leaves_none_in_hand none_manner (none_setup records chosen.buckets (length lists))) michael_lists) (counts_exact run);
       adds_up = replies_add_up closed report (closed_balance michael_lists closed run.fits) told.keys history;
       caused = run_full run;
       enough = λ has. never_full run (none_takes_spare_first (none_setup records chosen.buckets (length lists))) refl (enough_records chosen c.args.workload c.requires.set c.requires.playable.few_buckets c.callers.ensures.limits has);

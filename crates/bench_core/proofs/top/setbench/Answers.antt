@@ -91,6 +91,9 @@ returns-clause-keys g c = ending.keys c.end_of.ensures
 pub returns-clause-adds_up : goal.returns-clause-adds_up
 returns-clause-adds_up g c = ending.adds_up c.end_of.ensures
 
+pub returns-clause-counts : goal.returns-clause-counts
+returns-clause-counts g c = ending.counts c.end_of.ensures
+
 pub returns-clause-unreclaimed : goal.returns-clause-unreclaimed
 returns-clause-unreclaimed g c = ending.unreclaimed c.end_of.ensures
 
