@@ -46,7 +46,7 @@ pub(crate) fn leave<S: Shape, R: Scheme>(table: &Table<S, R>, caller: &mut Calle
 pub(crate) fn reach<S: Shape, R: Scheme>(
     table: &Table<S, R>,
     caller: &mut Caller<S, R>,
-    place: u8,
+    place: u32,
     from: Node,
     field: u8,
 ) -> Holding

@@ -58,7 +58,7 @@ impl<'a, S: Shape, R: Scheme, A: Allocator, P: Pool> Guard<'a, S, R, A, P> {
     /// says which links may be followed. `Held`: the record is held at that place from now on, until
     /// `finish` or the next use of the place. At every other answer the place holds nothing. What other
     /// places hold stays.
-    pub fn hold(&mut self, place: u8, from: Node, field: u8) -> Holding
+    pub fn hold(&mut self, place: u32, from: Node, field: u8) -> Holding
         requires at_work { IsAtWork self.old }
         requires place { place < R.PLACES }
         requires from { HoldsNode self.old.caller.now.pass from }

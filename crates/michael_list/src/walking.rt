@@ -25,7 +25,7 @@ use row_words::Link;
 use set_calls::{same_held, same_node};
 
 // The place for what a node leads to: 0 or 1, whichever isn't the node's.
-fn place_behind(node: &Node) -> u8
+fn place_behind(node: &Node) -> u32
     ensures within { result < 2 }
     ensures else_ { IsElsewhere (origin node.now) result }
 {

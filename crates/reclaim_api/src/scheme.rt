@@ -28,7 +28,7 @@ use row_words::{Chain, Freed};
 /// and what it answered by them.
 pub trait Scheme: Cover {
     /// How many records a caller holds at most, each at a place from 0 on. At least 3.
-    const PLACES: u8;
+    const PLACES: u32;
 
     ghost PLACES: { ℕ };
 
@@ -108,7 +108,7 @@ pub trait Scheme: Cover {
         table: &Table<S, Self>,
         pass: &mut Pass<S, Self>,
         local: &mut Self::Local,
-        place: u8,
+        place: u32,
         from: Node,
         field: u8,
     ) -> Holding

@@ -14,7 +14,7 @@ use row_words::{Chain, Freed, MARK};
 const NONE_FREED: Freed = Freed { freed: 0, spent: 0 };
 
 impl Scheme for NoReclaim {
-    const PLACES: u8 = 8;
+    const PLACES: u32 = 8;
 
     ghost PLACES = { 8 };
 
@@ -64,7 +64,7 @@ impl Scheme for NoReclaim {
         table: &Table<S, NoReclaim>,
         pass: &mut Pass<S, NoReclaim>,
         _local: &mut (),
-        place: u8,
+        place: u32,
         from: Node,
         field: u8,
     ) -> Holding {

@@ -91,7 +91,7 @@ impl<S: Shape, R: Cover> Table<S, R> {
     /// Loads a link of a root or of a held record, to hold what it leads to at `place`, which is below
     /// the number of the reclaimer's places. `field` is 3. What the pass holds there afterwards, or waits
     /// for, is what the reclaimer says: the link's target, where the link has no mark.
-    pub fn reach_link(&self, pass: &mut Pass<S, R>, place: u8, from: Node, field: u8) -> Link
+    pub fn reach_link(&self, pass: &mut Pass<S, R>, place: u32, from: Node, field: u8) -> Link
         requires pass { IsPassOf self.now pass.old }
         requires inside { is_inside pass.old ≡ true }
         requires from { HoldsNode pass.old from }

@@ -5,7 +5,7 @@ use row_words::{Link, Ref};
 #[derive(Clone, Copy, Debug, PartialEq, Eq)]
 pub struct Held {
     /// The place, from 0.
-    pub place: u8,
+    pub place: u32,
     /// The record.
     pub target: Ref,
 }
