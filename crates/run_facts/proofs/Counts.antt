@@ -10,6 +10,7 @@ use Rattle.record_memory.specs.declared.books.Place.{Place}
 use Rattle.record_memory.specs.declared.books.Place.TheVariants.{Undrawn, Root, Linked, Shelved, Of}
 use Rattle.record_memory.specs.declared.books.Setup.{Setup}
 use Rattle.record_memory.specs.declared.books.Standing.TheVariants.{Handing, Own, Spare, TakenOut, Limbo, Free, Spent}
+use Rattle.record_memory.specs.Memory.{Memory}
 use Rattle.record_rule.specs.Counts.{drawn_as, retired_as, was_drawn, times_retired, lives_before}
 use Rattle.record_rule.specs.Facts.{At, ShapeFacts, CoverFacts}
 use Rattle.record_rule.specs.Inputs.{taken_at, taken_cell}
@@ -17,6 +18,7 @@ use Rattle.record_rule.specs.PlaceCounts.{count_in, drawn_in, reused_in}
 use Rattle.record_rule.specs.Records.{Record}
 use Rattle.record_rule.specs.Standings.{is_linked, is_shelved, is_had, is_handing, is_own, is_spare, is_taken_out, is_limbo, is_free, is_spent}
 use Rattle.record_rule.specs.Taken.{generation_of}
+use Rattle.record_rule.specs.World.{Places}
 use Rattle.record_rule.proofs.CountingPlaces.{bit, in_cons, first_ones}
 use Rattle.record_table.specs.Closing.{closed_books, closed_setup}
 use Rattle.record_table.specs.declared.closing.Closed.{Closed}
@@ -90,6 +92,9 @@ not_shelved Linked none = refl
 not_shelved (Shelved k) none = absurd (none k refl)
 not_shelved (Of c s) none = refl
 
+pub none_shelved : (setup : Setup) (records : List Record) (books : List Book) (m : Memory) → Places setup records books m → count_in is_shelved records ≡ 0
+none_shelved setup records books m p = first_ones (λ (r : Record). is_shelved r.place) records 0 (omega arith) (λ i r at less. absurd (omega (arith, less))) (λ i r at more. not_shelved r.place (p.sound i r at).unshelved)
+
 -- the generations that a record had before this one
 lives_are : (first : ℕ) (r : Record) (p : Place) → (p ≡ Undrawn → r.generation + 1 ≡ first) → r.generation - first ≡ generation_of (taken_at p r) - first
 lives_are first r Undrawn unborn = omega (arith, unborn refl)
@@ -160,9 +165,6 @@ module _ {s : ShapeFacts} {c : CoverFacts} {steps : Setup → Call → ℕ → A
   none_handing : count_in (is_had is_handing) records ≡ 0
   none_handing = omega (arith, none_in_hand, hand_sum records)
 
-  none_shelved : count_in is_shelved records ≡ 0
-  none_shelved = first_ones (λ (r : Record). is_shelved r.place) records 0 (omega arith) (λ i r at less. absurd (omega (arith, less))) (λ i r at more. not_shelved r.place (run.fits.placed.sound i r at).unshelved)
-
   pub counts_fit : IsListSet s → CountsFit closed
   counts_fit list_set = let l = closed_lists list_set run.fits in let f = run.fits.counted in let m = run.fits.moved in record {
     records = records;
@@ -177,7 +179,7 @@ module _ {s : ShapeFacts} {c : CoverFacts} {steps : Setup → Call → ℕ → A
       drawn_sum records,
       none_in_hand,
       hand_sum records,
-      none_shelved,
+      none_shelved k records (closed_books closed) _ run.fits.placed,
       callers_had is_limbo k records (closed_books closed) _ run.fits.placed,
       callers_had is_free k records (closed_books closed) _ run.fits.placed,
       callers_had is_spare k records (closed_books closed) _ run.fits.placed,
