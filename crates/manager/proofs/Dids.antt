@@ -39,7 +39,8 @@ module _ (m : Manner) (s : ShapeFacts) (k : Setup) (v w : View) (setup : v.setup
   exchange_does old new call (Err found) e = does_still refl refl (refused_hand old found.link e) (refused_does old new found.link e, stock)
 
   -- of an own record
-  pub publish_does : {U : Type 0} (old : LinkParts) (own : RefParts) (row : List ℕ) (call : Option Call) → HasOwn v own row → (r : Result U (RefParts × Found)) → MatchResult r (λ _. PublishedLink s v (origin at) 3 old own call w) (λ back. (back.0 ≡ own) × IsRefused v (origin at) old back.1.link w)
+  pub publish_does : {U : Type 0} (old : LinkParts) (own : RefParts) (row : List ℕ) (call : Option Call) → HasOwn v own row → (r : Result U (RefParts × Found))
+      → MatchResult r (λ _. PublishedLink s v (origin at) 3 old own call w) (λ back. (back.0 ≡ own) × IsRefused v (origin at) old back.1.link w)
       → MatchResult r (λ _. Does m k (published at 3 old own call None) v.own w.own) (λ back. Does m k (published at 3 old own call (Some back.1.link)) v.own w.own)
   publish_does old own row call has (Ok u) e = record {
     acts = (made_does old (clean own) (ap (λ (x : View). x.own.steps) e.view), stock);

@@ -9,8 +9,8 @@ use Rattle.record_memory.specs.declared.books.Book.{Book}
 use Rattle.record_memory.specs.declared.books.Place.{Place}
 use Rattle.record_memory.specs.declared.books.Place.TheVariants.{Undrawn, Root, Linked, Shelved, Of}
 use Rattle.record_memory.specs.declared.books.Setup.{Setup}
-use Rattle.record_memory.specs.Memory.{Memory}
 use Rattle.record_memory.specs.declared.books.Standing.TheVariants.{Handing, Own, Spare, TakenOut, Limbo, Free, Spent}
+use Rattle.record_memory.specs.Memory.{Memory}
 use Rattle.record_rule.specs.Counts.{drawn_as, retired_as, was_drawn, times_retired, lives_before}
 use Rattle.record_rule.specs.Facts.{At, ShapeFacts, CoverFacts}
 use Rattle.record_rule.specs.Inputs.{taken_at, taken_cell}
@@ -92,6 +92,9 @@ not_shelved Linked none = refl
 not_shelved (Shelved k) none = absurd (none k refl)
 not_shelved (Of c s) none = refl
 
+pub none_shelved : (setup : Setup) (records : List Record) (books : List Book) (m : Memory) → Places setup records books m → count_in is_shelved records ≡ 0
+none_shelved setup records books m p = first_ones (λ (r : Record). is_shelved r.place) records 0 (omega arith) (λ i r at less. absurd (omega (arith, less))) (λ i r at more. not_shelved r.place (p.sound i r at).unshelved)
+
 -- the generations that a record had before this one
 lives_are : (first : ℕ) (r : Record) (p : Place) → (p ≡ Undrawn → r.generation + 1 ≡ first) → r.generation - first ≡ generation_of (taken_at p r) - first
 lives_are first r Undrawn unborn = omega (arith, unborn refl)
@@ -148,10 +151,6 @@ module _ (setup : Setup) where
     in_cons (is_had is_spent) r rs,
   )
 
--- none is on a shelf
-unshelved : (k : Setup) (l : List Record) (books : List Book) (m : Memory) → Places k l books m → count_in is_shelved l ≡ 0
-unshelved k l books m placed = first_ones (λ (r : Record). is_shelved r.place) l 0 (omega arith) (λ i r at less. absurd (omega (arith, less))) (λ i r at more. not_shelved r.place (placed.sound i r at).unshelved)
-
 module _ {s : ShapeFacts} {c : CoverFacts} {steps : Setup → Call → ℕ → Answer → Book → Book → Type 0} {budget : ℕ} {setup : Setup} {lists : List (List (List Call))} {replies : List (List Reply)} {counts : Counts} {closed : Closed}
     (run : IsSetRun s c steps budget setup lists replies counts closed) (none : LeavesNoneInHand (steps setup)) where
   abbrev records : List Record
@@ -165,9 +164,6 @@ module _ {s : ShapeFacts} {c : CoverFacts} {steps : Setup → Call → ℕ → A
 
   none_handing : count_in (is_had is_handing) records ≡ 0
   none_handing = omega (arith, none_in_hand, hand_sum records)
-
-  none_shelved : count_in is_shelved records ≡ 0
-  none_shelved = unshelved k records (closed_books closed) _ run.fits.placed
 
   pub counts_fit : IsListSet s → CountsFit closed
   counts_fit list_set = let l = closed_lists list_set run.fits in let f = run.fits.counted in let m = run.fits.moved in record {
@@ -183,12 +179,12 @@ module _ {s : ShapeFacts} {c : CoverFacts} {steps : Setup → Call → ℕ → A
       drawn_sum records,
       none_in_hand,
       hand_sum records,
-      none_shelved,
+      none_shelved k records (closed_books closed) _ run.fits.placed,
       callers_had is_limbo k records (closed_books closed) _ run.fits.placed,
       callers_had is_free k records (closed_books closed) _ run.fits.placed,
       callers_had is_spare k records (closed_books closed) _ run.fits.placed,
       callers_had is_spent k records (closed_books closed) _ run.fits.placed,
     );
-    freed = omega (arith, run.moves.sums.freed, unshelved k run.moves.records (closed_books closed) _ run.moves.placed);
+    freed = omega (arith, run.moves.sums.freed, none_shelved k run.moves.records (closed_books closed) _ run.moves.placed);
     limbo = run.moves.sums.limbo;
   }
