@@ -5,4 +5,5 @@ use Rattle.record_pieces.proofs.Hands.{hand_mine, does_still}
 use Rattle.manager.proofs.types.Guard.load_link.Goals as goal
 
 pub returns-clause-did : goal.returns-clause-did
-returns-clause-did g c = let s = c.load_link.ensures.step in does_still refl refl (hand_mine (view c.args.self.now.caller.now.pass).own (view c.load_link.new.caller.pass).own (ap (λ (x : View). x.own.mine) s.2.view)) ((s.0, s.1, ap (λ (x : View). x.own.steps) s.2.view), refl, c.load_link.ensures.stock)
+returns-clause-did g c = let s = c.load_link.ensures.step in let v : View = view c.args.self.now.caller.now.pass in let w : View = view c.load_link.new.caller.pass in
+    does_still refl refl (hand_mine v.own w.own (ap (λ (x : View). x.own.mine) s.2.view)) ((s.0, s.1, ap (λ (x : View). x.own.steps) s.2.view), refl, c.load_link.ensures.stock)

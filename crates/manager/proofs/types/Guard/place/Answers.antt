@@ -5,4 +5,5 @@ use Rattle.record_pieces.proofs.Hands.{hand_mine, does_still}
 use Rattle.manager.proofs.types.Guard.place.Goals as goal
 
 pub returns-clause-did : goal.returns-clause-did
-returns-clause-did g c = let s = c.place.ensures.placed in does_still refl refl (hand_mine (view c.args.self.now.caller.now.pass).own (view c.place.new.caller.pass).own (ap (λ (x : View). x.own.mine) s.1)) ((s.0, ap (λ (x : View). x.own.steps) s.1), ap (λ (x : View). x.own.answered) s.1, c.place.ensures.stock)
+returns-clause-did g c = let s = c.place.ensures.placed in let v : View = view c.args.self.now.caller.now.pass in let w : View = view c.place.new.caller.pass in
+    does_still refl refl (hand_mine v.own w.own (ap (λ (x : View). x.own.mine) s.1)) ((s.0, ap (λ (x : View). x.own.steps) s.1), ap (λ (x : View). x.own.answered) s.1, c.place.ensures.stock)
