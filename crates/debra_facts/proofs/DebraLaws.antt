@@ -9,8 +9,8 @@ use Rattle.cover_facts.proofs.There.{linked_stays, handed_stays}
 use Rattle.guard_facts.specs.Announcing.{GuardsFit}
 use Rattle.debra_facts.specs.Rounds.{PLACES}
 use Rattle.debra_facts.specs.Debra.{DebraFits, debra}
-use Rattle.debra_facts.proofs.Fits.{false_true}
-use Rattle.debra_facts.proofs.Looks.{loads_word, loaded_word, stays_so}
+use Rattle.debra_facts.proofs.Fits.{false_true, stays_so}
+use Rattle.debra_facts.proofs.Looks.{loads_word, loaded_word}
 use Rattle.debra_facts.proofs.Stores.{stores_so, stored_so, exchanges_so}
 use Rattle.debra_facts.proofs.Lives.{moves_so, takes_so, puts_so, reaches_so, reached_so}
 use Rattle.debra_facts.proofs.Frees.{nobody_holds, frees_so}

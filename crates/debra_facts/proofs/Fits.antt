@@ -87,3 +87,7 @@ module _ (setup : Setup) (x : SchemeInput) where
     -- so each guard fits, where the new one does
     pub guards_over : GuardsFit DebraFits setup x → (DebraFits setup (with_guard x d new) d g → DebraFits setup (with_guard x d new) d new) → GuardsFit DebraFits setup (with_guard x d new)
     guards_over h mine = guards_fit DebraFits setup x d g new at h (λ e k there f. guard_over e k f) mine
+
+  -- a guard that stays as it is
+  pub stays_so : (d : ℕ) (g : Guard) → GuardsFit DebraFits setup x → At x.guards d g → GuardsFit DebraFits setup (with_guard x d g)
+  stays_so d g h at = guards_over d g g at (active_as x g g refl refl) h (λ f. f)

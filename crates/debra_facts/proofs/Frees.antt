@@ -19,7 +19,8 @@ module _ (setup : Setup) (x : SchemeInput) (h : GuardsFit DebraFits setup x) (d 
   -- it was retired two epochs ago or earlier, and no caller is active at so old an epoch
   too_late : (i generation b n stamp r e : ℕ) (k : Guard) → At x.cells i (limbo d generation b n stamp r) → debra_free setup g (limbo_record i generation b stamp) ≡ true → At x.guards e k → k.active ≡ true → k.start_taken_out ≤ n → ⊥
   too_late i generation b n stamp r e k cell free there on behind = let f = h d g at in let o = h e k there in let s = o.late on d i generation b n stamp r cell behind in
-      let lt : stamp < f.u = subst (λ (z : ℕ). stamp < z) (third_reading setup x d g f) (ltb-true stamp (reading g 2) free) in let bag = (f.bags i generation b n stamp r cell).3 lt in
+      let lt : stamp < f.u = subst (λ (z : ℕ). stamp < z) (third_reading setup x d g f) (ltb-true stamp (reading g 2) free) in
+      let bag = (f.bags i generation b n stamp r cell).3 lt in
       let up = (o.active on).4 in let r0 = f.rise in let r1 = f.read in ⊎_elim (λ (p : f.u < f.w). omega arith) (λ (p : f.u ≡ 0). omega arith) f.rose
 
   pub nobody_holds : IsSafe setup x → (i generation b n stamp r : ℕ) → At x.cells i (limbo d generation b n stamp r) → debra_free setup g (limbo_record i generation b stamp) ≡ true → (e p : ℕ) (k : Guard) (t : RefParts) → At x.guards e k → At k.holds p (Some t) → t.index ≢ i + 1

@@ -12,13 +12,10 @@ use Rattle.record_rule.specs.Laws.{moment, with_guard, IsSafe, ValueIs, HasLoade
 use Rattle.record_rule.proofs.Lists.{below_at, get_at, one_at}
 use Rattle.guard_facts.specs.Announcing.{word_of, reading, GuardsFit}
 use Rattle.guard_facts.proofs.Replaced.{holds_on}
-use Rattle.debra_facts.specs.Rounds.{is_passed, debra_loaded}
+use Rattle.debra_facts.specs.Rounds.{is_passed, one_passed, debra_loaded}
 use Rattle.debra_facts.specs.Debra.{DebraFits}
-use Rattle.debra_facts.proofs.Fits.{active_as, first_reading, guards_over}
+use Rattle.debra_facts.proofs.Fits.{active_as, first_reading, guards_over, stays_so}
 use Rattle.debra_facts.proofs.Readings.{reads, read_so}
-
-abbrev looked : Guard → Guard
-looked g = record g { scan_place = g.scan_place + 1 }
 
 -- an announcement that was passed is of a caller that is quiet, or active at this epoch or a later one
 passed_by : (setup : Setup) (x : SchemeInput) (e n : ℕ) (k : Guard) (v : ℕ) → DebraFits setup x e k → word_of k 0 ≡ n → is_passed v n ≡ true → k.active ≡ true → v ≤ k.epoch
@@ -33,8 +30,8 @@ split_last i n lt = grind arith
 
 -- a caller below the new place was below the old one, or is the one that was passed
 passes : (setup : Setup) (x : SchemeInput) (d k n : ℕ) (g : Guard) → length x.guards ≡ setup.callers → GuardsFit DebraFits setup x → At x.guards d g → ValueIs x (Announced k) n → k ≡ 4 * g.scan_place → is_passed (reading g 0) n ≡ true
-    → GuardsFit DebraFits setup (with_guard x d (looked g))
-passes setup x d k n g many h at is spot passed = let new : Guard = looked g in
+    → GuardsFit DebraFits setup (with_guard x d (one_passed g))
+passes setup x d k n g many h at is spot passed = let new : Guard = one_passed g in
     let c : is.0 ≡ g.scan_place = (let z = is.3 in let y = is.4 in omega arith) in let j : is.1 ≡ 0 = (let z = is.3 in let y = is.4 in omega arith) in
     let word : word_of is.2 0 ≡ n = get_at is.2.announced 0 n 0 (subst (λ (z : ℕ). At is.2.announced z n) j is.6) in
     let by_word : (e : ℕ) (o : Guard) → e ≡ g.scan_place → At x.guards e o → o.active ≡ true → reading g 0 ≤ o.epoch =
@@ -61,12 +58,8 @@ passes setup x d k n g many h at is spot passed = let new : Guard = looked g in
       stands = f.stands;
     })
 
--- no more is known of a guard that stays
-pub stays_so : (setup : Setup) (x : SchemeInput) (d : ℕ) (g : Guard) → GuardsFit DebraFits setup x → At x.guards d g → GuardsFit DebraFits setup (with_guard x d g)
-stays_so setup x d g h at = guards_over setup x d g g at (active_as x g g refl refl) h (λ f. f)
-
 looks_as : (setup : Setup) (x : SchemeInput) (d k n : ℕ) (g : Guard) → length x.guards ≡ setup.callers → GuardsFit DebraFits setup x → At x.guards d g → ValueIs x (Announced k) n → (a b : Bool) → eqb k (4 * g.scan_place) ≡ a → is_passed (reading g 0) n ≡ b
-    → GuardsFit DebraFits setup (with_guard x d (cond a (cond b (looked g) g) g))
+    → GuardsFit DebraFits setup (with_guard x d (cond a (cond b (one_passed g) g) g))
 looks_as setup x d k n g many h at is false b e q = stays_so setup x d g h at
 looks_as setup x d k n g many h at is true false e q = stays_so setup x d g h at
 looks_as setup x d k n g many h at is true true e q = passes setup x d k n g many h at is (eqb-true k (4 * g.scan_place) e) q
@@ -80,8 +73,8 @@ loads_word setup x d updates n g word safe h at is = stays_so setup x d g h at
 same_so : (x : SchemeInput) (g : Guard) → HasLoaded x g g
 same_so x g = holds_on x g g refl refl refl record { taken_out = refl; updates = refl; step = refl }
 
-looked_as : (x : SchemeInput) (g : Guard) (a b : Bool) → HasLoaded x g (cond a (cond b (looked g) g) g)
-looked_as x g true true = holds_on x g (looked g) refl refl refl record { taken_out = refl; updates = refl; step = refl }
+looked_as : (x : SchemeInput) (g : Guard) (a b : Bool) → HasLoaded x g (cond a (cond b (one_passed g) g) g)
+looked_as x g true true = holds_on x g (one_passed g) refl refl refl record { taken_out = refl; updates = refl; step = refl }
 looked_as x g true false = same_so x g
 looked_as x g false b = same_so x g
 

@@ -11,17 +11,28 @@ use Rattle.guard_facts.specs.Announcing.{LAST_EPOCH, reading, entered, left}
 abbrev pub PLACES : ℕ
 PLACES = 8
 
--- Its last three readings differ. An epoch that isn't the last reading becomes that, and the oldest is dropped; a scan begins
-abbrev pub debra_at : Guard → ℕ → Guard
-debra_at g e = if e == reading g 0 then record g { scan_place = 0 } else record g { readings = e ∷ reading g 0 ∷ reading g 1 ∷ []; scan_place = 0 }
+-- it read the epoch of its last reading again, and a scan begins
+abbrev pub reads_again : Guard → Guard
+reads_again g = record g { scan_place = 0 }
 
--- a caller's word lets the epoch pass: it is even, or announces this reading
+-- it read another epoch: that is the last of its three readings now, and the oldest is dropped
+abbrev pub reads_anew : Guard → ℕ → Guard
+reads_anew g e = record g { readings = e ∷ reading g 0 ∷ reading g 1 ∷ []; scan_place = 0 }
+
+abbrev pub debra_at : Guard → ℕ → Guard
+debra_at g e = if e == reading g 0 then reads_again g else reads_anew g e
+
+-- a caller's word lets the epoch go on: it is even, or announces this reading
 abbrev pub is_passed : ℕ → ℕ → Bool
 is_passed v n = if n % 2 == 0 then true else (n == 2 * v + 1)
 
--- The scan goes on where the word is that of the caller whose turn it is, and lets the epoch pass
+-- the scan passed one caller more
+abbrev pub one_passed : Guard → Guard
+one_passed g = record g { scan_place = g.scan_place + 1 }
+
+-- it does where the word is that of the caller whose turn it is, and lets the epoch go on
 abbrev pub debra_look : Guard → ℕ → ℕ → Guard
-debra_look g k n = if k == 4 * g.scan_place then (if is_passed (reading g 0) n then record g { scan_place = g.scan_place + 1 } else g) else g
+debra_look g k n = if k == 4 * g.scan_place then (if is_passed (reading g 0) n then one_passed g else g) else g
 
 abbrev pub debra_loaded : Setup → Moment → ℕ → Guard → Word → ℕ → Guard
 debra_loaded setup m d g Epoch n = debra_at g n
