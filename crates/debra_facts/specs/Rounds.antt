@@ -47,11 +47,17 @@ debra_free setup g n = nat_lt n.stamp (reading g 2)
 abbrev pub DebraMayStore : Setup → Guard → ℕ → ℕ → Type 0
 DebraMayStore setup g k v = (k ≡ 0) × (((v ≡ 2 * reading g 0 + 1) × (g.active ≡ false)) ⊎ (v ≡ 2 * reading g 0))
 
+-- an odd word starts its guard
 abbrev pub starts_by : Guard → ℕ → ℕ → Bool
 starts_by g k v = v % 2 == 1
 
+-- its guard once it has started by such a store, or fell quiet
+abbrev pub stored_as : Bool → Moment → Guard → ℕ → ℕ → ℕ → Guard
+stored_as true m g step k v = entered m g step k v
+stored_as false m g step k v = left g k v
+
 abbrev pub debra_stored : Moment → Guard → ℕ → ℕ → ℕ → Guard
-debra_stored m g step k v = if starts_by g k v then entered m g step k v else left g k v
+debra_stored m g step k v = stored_as (starts_by g k v) m g step k v
 
 -- the epoch goes on by one where the scan has passed all callers
 abbrev pub DebraMayExchange : Setup → Guard → ℕ → ℕ → Type 0
