@@ -16,7 +16,7 @@ use Rattle.debra_facts.specs.Debra.{DebraFits}
 use Rattle.debra_facts.proofs.Fits.{third_reading, active_who, fits_over}
 
 module _ (setup : Setup) (x : SchemeInput) (h : GuardsFit DebraFits setup x) (d : ℕ) (g : Guard) (at : At x.guards d g) where
-  -- it was retired two epochs ago or earlier, and no caller is active at so old an epoch
+  -- It was stamped below the third reading, so it was retired at an epoch of at most that reading, which is at most the epoch less 2. The epoch of each active caller is at least the epoch less 1, and what was retired behind its start was retired no earlier than that
   too_late : (i generation b n stamp r e : ℕ) (k : Guard) → At x.cells i (limbo d generation b n stamp r) → debra_free setup g (limbo_record i generation b stamp) ≡ true → At x.guards e k → k.active ≡ true → k.start_taken_out ≤ n → ⊥
   too_late i generation b n stamp r e k cell free there on behind = let f = h d g at in let o = h e k there in let s = o.late on d i generation b n stamp r cell behind in
       let lt : stamp < f.u = subst (λ (z : ℕ). stamp < z) (third_reading setup x d g f) (ltb-true stamp (reading g 2) free) in
