@@ -23,7 +23,8 @@ module _ (setup : Setup) (x : SchemeInput) (h : GuardsFit DebraFits setup x) (d 
       let bag = (f.bags i generation b n stamp r cell).3 lt in
       let up = (o.active on).4 in let r0 = f.rise in let r1 = f.read in ⊎_elim (λ (p : f.u < f.w). omega arith) (λ (p : f.u ≡ 0). omega arith) f.rose
 
-  pub nobody_holds : IsSafe setup x → (i generation b n stamp r : ℕ) → At x.cells i (limbo d generation b n stamp r) → debra_free setup g (limbo_record i generation b stamp) ≡ true → (e p : ℕ) (k : Guard) (t : RefParts) → At x.guards e k → At k.holds p (Some t) → t.index ≢ i + 1
+  pub nobody_holds : IsSafe setup x → (i generation b n stamp r : ℕ) → At x.cells i (limbo d generation b n stamp r) → debra_free setup g (limbo_record i generation b stamp) ≡ true
+      → (e p : ℕ) (k : Guard) (t : RefParts) → At x.guards e k → At k.holds p (Some t) → t.index ≢ i + 1
   nobody_holds safe i generation b n stamp r cell free e p k t there hold same = let w = safe.holds e p k t there hold in
       let here : At x.cells (t.index - 1) (limbo d generation b n stamp r) = subst (λ (z : ℕ). At x.cells z (limbo d generation b n stamp r)) (omega arith) cell in
       let alike : IsThereAs (limbo d generation b n stamp r) t.generation k.start_taken_out = subst (λ (c : SchemeCell). IsThereAs c t.generation k.start_taken_out) (one_at x.cells (t.index - 1) w.0 (limbo d generation b n stamp r) w.2 here) w.3 in

@@ -1,4 +1,4 @@
--- Under DEBRA what was taken out behind an active caller's start stays there, since the epoch goes on by one at most while the caller is active.
+-- Under DEBRA what was taken out behind an active caller's start stays there, since the epoch advances by one at most while the caller is active.
 use Rattle.std.specs.Prelude.{◌≡◌, ℕ, ◌+◌, ◌*◌, ◌%◌, ◌<◌, ◌≤◌, ◌⊎◌, ◌∷◌, [], true, false}
 use Rattle.record_memory.specs.declared.books.Setup.{Setup}
 use Rattle.record_memory.specs.declared.books.Guard.{Guard}

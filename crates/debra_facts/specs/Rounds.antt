@@ -22,7 +22,7 @@ reads_anew g e = record g { readings = e ∷ reading g 0 ∷ reading g 1 ∷ [];
 abbrev pub debra_at : Guard → ℕ → Guard
 debra_at g e = if e == reading g 0 then reads_again g else reads_anew g e
 
--- a caller's word lets the epoch go on: it is even, or announces this reading
+-- a caller's word lets the epoch advance: it is even, or announces this reading
 abbrev pub is_passed : ℕ → ℕ → Bool
 is_passed v n = if n % 2 == 0 then true else (n == 2 * v + 1)
 
@@ -30,7 +30,7 @@ is_passed v n = if n % 2 == 0 then true else (n == 2 * v + 1)
 abbrev pub one_passed : Guard → Guard
 one_passed g = record g { scan_place = g.scan_place + 1 }
 
--- it does where the word is that of the caller whose turn it is, and lets the epoch go on
+-- it does where the word is that of the caller whose turn it is, and lets the epoch advance
 abbrev pub debra_look : Guard → ℕ → ℕ → Guard
 debra_look g k n = if k == 4 * g.scan_place then (if is_passed (reading g 0) n then one_passed g else g) else g
 
@@ -59,6 +59,6 @@ stored_as false m g step k v = left g k v
 abbrev pub debra_stored : Moment → Guard → ℕ → ℕ → ℕ → Guard
 debra_stored m g step k v = stored_as (starts_by g k v) m g step k v
 
--- the epoch goes on by one where the scan has passed all callers
+-- the epoch advances by one where the scan has passed all callers
 abbrev pub DebraMayExchange : Setup → Guard → ℕ → ℕ → Type 0
 DebraMayExchange setup g old new = (g.scan_place ≡ setup.callers) × (old ≡ reading g 0) × (old < LAST_EPOCH) × (new ≡ old + 1)
