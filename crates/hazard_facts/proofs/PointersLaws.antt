@@ -7,7 +7,7 @@ use Rattle.row_words.specs.Refs.{RefParts, refer}
 use Rattle.record_rule.specs.Inputs.{SchemeCell, reachable, unpublished, unretired, limbo, SchemeInput}
 use Rattle.record_rule.specs.Facts.{At, Moment}
 use Rattle.record_rule.specs.Guards.{blank_guard, holding}
-use Rattle.record_rule.specs.Laws.{with_cell, with_guard, opening_scheme, HasStored, CoverLaws}
+use Rattle.record_rule.specs.Laws.{moment, with_cell, with_guard, opening_scheme, HasStored, CoverLaws}
 use Rattle.record_rule.specs.Least.{holds_nothing}
 use Rattle.record_rule.proofs.Lists.{one_at, at_replicate}
 use Rattle.guard_facts.specs.Announcing.{announcing, GuardsFit}
@@ -70,7 +70,7 @@ hazard_laws = record {
   reached = λ m g q t may. has_reached m g q t may;
   looks = λ setup x d step updates g safe h at begins. looks_so setup x d step updates g h at;
   loads = λ setup x d updates n g word safe h at is. loads_so setup x d updates n g word h at is;
-  loaded = λ setup x d updates n g word safe h at is. has_loaded setup x (record { epoch = x.epoch; taken_out = length x.taken_out; updates = updates }) d n g word;
+  loaded = λ setup x d updates n g word safe h at is. has_loaded setup x (moment x updates) d n g word;
   free_of = nobody_holds;
   frees = λ setup x d g cells safe h at freed. ends_so setup (record x { cells = cells }) d g (cells_over setup x cells x.taken_out (limbo_freed (hazard_free setup g) d x.cells cells freed) h) at;
   cleared = has_cleared;
