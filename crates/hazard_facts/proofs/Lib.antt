@@ -1,0 +1,5 @@
+pub mod Frames
+pub mod Reaching
+pub mod Scanning
+pub mod Freeing
+pub mod PointersLaws
