@@ -8,12 +8,12 @@ use Rattle.record_rule.specs.Facts.{At}
 use Rattle.record_rule.specs.Laws.{with_guard, HasLoaded}
 use Rattle.guard_facts.specs.Announcing.{reading, GuardsFit}
 use Rattle.guard_facts.proofs.Replaced.{holds_on}
-use Rattle.debra_facts.specs.Rounds.{reads_again, reads_anew, debra_at}
+use Rattle.debra_facts.specs.Rounds.{reads_anew, debra_at}
 use Rattle.debra_facts.specs.Debra.{DebraFits}
 use Rattle.debra_facts.proofs.Fits.{active_as, first_reading, second_reading, guards_over}
 
-reads_as : (setup : Setup) (x : SchemeInput) (d n : ℕ) (g : Guard) → GuardsFit DebraFits setup x → At x.guards d g → x.epoch ≡ n → (b : Bool) → eqb n (reading g 0) ≡ b → GuardsFit DebraFits setup (with_guard x d (cond b (reads_again g) (reads_anew g n)))
-reads_as setup x d n g h at is true e = guards_over setup x d g (reads_again g) at (active_as x g (reads_again g) refl refl) h (λ f. record {
+reads_as : (setup : Setup) (x : SchemeInput) (d n : ℕ) (g : Guard) → GuardsFit DebraFits setup x → At x.guards d g → x.epoch ≡ n → (b : Bool) → eqb n (reading g 0) ≡ b → GuardsFit DebraFits setup (with_guard x d (cond b g (reads_anew g n)))
+reads_as setup x d n g h at is true e = guards_over setup x d g g at (active_as x g g refl refl) h (λ f. record {
   v = f.v;
   w = f.w;
   u = f.u;
@@ -24,8 +24,8 @@ reads_as setup x d n g h at is true e = guards_over setup x d g (reads_again g) 
   quiet = f.quiet;
   active = f.active;
   bags = f.bags;
-  place = omega arith;
-  scanned = λ j k lt. absurd (omega arith);
+  place = f.place;
+  scanned = f.scanned;
   late = f.late;
   stands = f.stands;
 })
@@ -52,8 +52,8 @@ reads_as setup x d n g h at is false e = let new : Guard = reads_anew g n in gua
 pub reads : (setup : Setup) (x : SchemeInput) (d n : ℕ) (g : Guard) → GuardsFit DebraFits setup x → At x.guards d g → x.epoch ≡ n → GuardsFit DebraFits setup (with_guard x d (debra_at g n))
 reads setup x d n g h at is = reads_as setup x d n g h at is (eqb n (reading g 0)) refl
 
-read_as : (x : SchemeInput) (n : ℕ) (g : Guard) (b : Bool) → HasLoaded x g (cond b (reads_again g) (reads_anew g n))
-read_as x n g true = holds_on x g (reads_again g) refl refl refl record { taken_out = refl; updates = refl; step = refl }
+read_as : (x : SchemeInput) (n : ℕ) (g : Guard) (b : Bool) → HasLoaded x g (cond b g (reads_anew g n))
+read_as x n g true = holds_on x g g refl refl refl record { taken_out = refl; updates = refl; step = refl }
 read_as x n g false = holds_on x g (reads_anew g n) refl refl refl record { taken_out = refl; updates = refl; step = refl }
 
 pub read_so : (x : SchemeInput) (n : ℕ) (g : Guard) → HasLoaded x g (debra_at g n)

@@ -11,16 +11,13 @@ use Rattle.guard_facts.specs.Announcing.{LAST_EPOCH, reading, entered, left}
 abbrev pub PLACES : ℕ
 PLACES = 8
 
--- it read the epoch of its last reading again, and a scan begins
-abbrev pub reads_again : Guard → Guard
-reads_again g = record g { scan_place = 0 }
-
--- it read another epoch: that is the last of its three readings now, and the oldest is dropped
+-- it read another epoch: that is the last of its three readings now, the oldest is dropped, and a scan begins
 abbrev pub reads_anew : Guard → ℕ → Guard
 reads_anew g e = record g { readings = e ∷ reading g 0 ∷ reading g 1 ∷ []; scan_place = 0 }
 
+-- where it read the epoch of its last reading again, the scan goes on
 abbrev pub debra_at : Guard → ℕ → Guard
-debra_at g e = if e == reading g 0 then reads_again g else reads_anew g e
+debra_at g e = if e == reading g 0 then g else reads_anew g e
 
 -- a caller's word lets the epoch advance: it is even, or announces this reading
 abbrev pub is_passed : ℕ → ℕ → Bool
