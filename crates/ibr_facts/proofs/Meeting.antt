@@ -15,7 +15,7 @@ use Rattle.guard_facts.specs.Announcing.{word_of}
 use Rattle.ibr_facts.specs.Intervals.{MeetsAs, MeetsGuard, EndsMiss, IsBornBy, Lacks, IbrFits}
 
 pub none_waits : {A : Type 0} (o : Option (ℕ × RefParts)) (p : ℕ) (t : RefParts) → o ≡ None → o ≡ Some (p, t) → A
-none_waits o p t e f = let none : None ≡ Some (p, t) = sym e ∙ f in let no_such : ⊥ = cc in absurd no_such
+none_waits o p t e f = let none : ◌≡◌ {A = Option (ℕ × RefParts)} None (Some (p, t)) = sym e ∙ f in let no_such : ⊥ = cc in absurd no_such
 
 -- an interval that grows meets what it met
 pub meets_more : (cell : SchemeCell) (l u u' : ℕ) → u ≤ u' → MeetsAs cell l u → MeetsAs cell l u'
