@@ -1,9 +1,9 @@
 -- All that a whole scan misses leaves limbo at once.
-use Rattle.std.proofs.Common.{◌≡◌, ◌≢◌, ℕ, ◌+◌, ◌-◌, ◌<◌, ◌≤◌, ◌⊎◌, List, length, Bool, true, Some, sym, refl, ap, ◌∙◌, subst, arith, ⊎_elim, inl, inr}
+use Rattle.std.proofs.Common.{◌≢◌, ℕ, ◌-◌, ◌<◌, ◌⊎◌, List, Some, refl, ap, ◌∙◌, subst, arith, ⊎_elim, inl, inr}
 use mathlib.Core.Option.{some}
 use Rattle.record_memory.specs.declared.books.Setup.{Setup}
 use Rattle.record_memory.specs.declared.books.Guard.{Guard}
-use Rattle.row_words.specs.Refs.{RefParts, refer}
+use Rattle.row_words.specs.Refs.{RefParts}
 use Rattle.record_rule.specs.Inputs.{SchemeCell, unseen, rooted, reachable, unpublished, unretired, limbo, SchemeInput}
 use Rattle.record_rule.specs.Facts.{At}
 use Rattle.record_rule.specs.Laws.{IsSafe, IsFreed, FreedCells}

@@ -1,9 +1,9 @@
 -- One caller's guard changes.
-use Rattle.std.proofs.Common.{◌≡◌, ℕ, ◌+◌, ◌<◌, ◌≤◌, List, [], length, set, Option, Some, None, refl, ap, ◌∙◌, subst, arith}
+use Rattle.std.proofs.Common.{ℕ, ◌+◌, ◌<◌, ◌≤◌, []}
 use Rattle.record_memory.specs.declared.books.Setup.{Setup}
 use Rattle.record_memory.specs.declared.books.Guard.{Guard}
-use Rattle.row_words.specs.Refs.{RefParts, refer}
-use Rattle.record_rule.specs.Inputs.{SchemeCell, unretired, limbo, SchemeInput}
+use Rattle.row_words.specs.Refs.{refer}
+use Rattle.record_rule.specs.Inputs.{unretired, limbo, SchemeInput}
 use Rattle.record_rule.specs.Facts.{At}
 use Rattle.record_rule.specs.Laws.{with_guard}
 use Rattle.record_rule.proofs.Lists.{each_set}
@@ -35,7 +35,8 @@ module _ (setup : Setup) (x : SchemeInput) (d : ℕ) (g new : Guard) (at : At x.
   changes mine = guards_fit IbrFits setup x d g new at h others mine
 
 -- stamps by the same reading
-pub stamped_on : (setup : Setup) (x : SchemeInput) (d : ℕ) (g : Guard) → At x.guards d g → GuardsFit IbrFits setup x → (i generation b n e : ℕ) (k : Guard) → At x.cells i (unretired d generation b n) → n < g.reading_taken_out → At x.guards e k → Has k (refer (i + 1) generation) → word_of k 0 ≤ reading g 0
+pub stamped_on : (setup : Setup) (x : SchemeInput) (d : ℕ) (g : Guard) → At x.guards d g → GuardsFit IbrFits setup x
+    → (i generation b n e : ℕ) (k : Guard) → At x.cells i (unretired d generation b n) → n < g.reading_taken_out → At x.guards e k → Has k (refer (i + 1) generation) → word_of k 0 ≤ reading g 0
 stamped_on setup x d g at h i generation b n e k cell lt there has = (h e k there).stamped d i generation b n g cell at lt has
 
 -- a guard that has loaded no ends

@@ -1,5 +1,5 @@
 -- Interval-based reclamation keeps its facts.
-use Rattle.std.proofs.Common.{◌≡◌, ℕ, [], true, false, refl, arith, ap}
+use Rattle.std.proofs.Common.{ℕ, refl, arith}
 use Rattle.record_memory.specs.declared.books.Setup.{Setup}
 use Rattle.record_memory.specs.declared.books.Guard.{Guard}
 use Rattle.record_memory.specs.declared.steps.Word.{Word}

@@ -1,7 +1,7 @@
 -- What an interval meets, as the interval grows and as records go on in their lives.
-use Rattle.std.proofs.Common.{◌≡◌, ℕ, ◌+◌, ◌-◌, ◌<◌, ◌≤◌, ◌⊎◌, List, [], length, set, Option, Some, None, sym, refl, ap, ◌∙◌, subst, arith, ⊎_elim, inl, inr}
+use Rattle.std.proofs.Common.{◌≡◌, ℕ, ◌+◌, ◌-◌, ◌<◌, ◌≤◌, ◌⊎◌, [], set, Option, Some, None, sym, ap, ◌∙◌, subst, arith, ⊎_elim}
 use native.Mathlib.Decide.{ℕ_discrete}
-use mathlib.Core.Option.{some, some-ne-none}
+use mathlib.Core.Option.{some-ne-none}
 use lib.ListN.{get_elem?}
 use Rattle.atomic_table.proofs.Lists.{set_here, set_else}
 use Rattle.record_memory.specs.declared.books.Setup.{Setup}
@@ -34,7 +34,8 @@ born_later (unretired d g b n) e e' le h = omega arith
 born_later (limbo d g b n s r) e e' le h = omega arith
 
 -- what is met still is once one cell was set, where that cell comes to the next place of its life
-pub meets_set : (x : SchemeInput) (i : ℕ) (old new : SchemeCell) (g : Guard) (t : RefParts) → At x.cells i old → (IsThereAs old t.generation g.start_taken_out → MeetsAs old (word_of g 0) (word_of g 1) → t.index - 1 ≡ i → IsThereAs new t.generation g.start_taken_out × MeetsAs new (word_of g 0) (word_of g 1))
+pub meets_set : (x : SchemeInput) (i : ℕ) (old new : SchemeCell) (g : Guard) (t : RefParts) → At x.cells i old
+    → (IsThereAs old t.generation g.start_taken_out → MeetsAs old (word_of g 0) (word_of g 1) → t.index - 1 ≡ i → IsThereAs new t.generation g.start_taken_out × MeetsAs new (word_of g 0) (word_of g 1))
     → MeetsGuard x g t → MeetsGuard (with_cell x i new) g t
 meets_set x i old new g t at moves m = by (ℕ_discrete (t.index - 1) i)
   where

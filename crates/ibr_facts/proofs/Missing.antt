@@ -1,11 +1,11 @@
 -- What passes the test of a whole scan: each caller's loaded ends miss it, so each caller lacks it.
-use Rattle.std.proofs.Common.{◌≡◌, ◌≢◌, ℕ, zero, suc, ◌+◌, ◌*◌, ◌<◌, ◌⊎◌, List, [], ◌∷◌, length, cond, eqb, ltb, Bool, true, false, Some, sym, refl, ap, ◌∙◌, subst, arith, ⊎_elim, inl, inr}
+use Rattle.std.proofs.Common.{◌≡◌, ◌≢◌, ℕ, zero, suc, ◌+◌, ◌*◌, ◌<◌, ◌⊎◌, List, [], ◌∷◌, length, cond, eqb, ltb, Bool, true, false, Some, refl, subst, arith, ⊎_elim, inl, inr}
 use Rattle.std.specs.Prelude.{not}
 use Rattle.std.proofs.lemmas.Bool.{eqb-true, ltb-true}
 use Rattle.record_memory.specs.declared.books.Setup.{Setup}
 use Rattle.record_memory.specs.declared.books.Guard.{Guard}
 use Rattle.row_words.specs.Refs.{RefParts, refer}
-use Rattle.record_rule.specs.Inputs.{SchemeCell, limbo, SchemeInput}
+use Rattle.record_rule.specs.Inputs.{limbo, SchemeInput}
 use Rattle.record_rule.specs.Facts.{At, LimboRecord}
 use Rattle.record_rule.specs.Laws.{IsSafe, limbo_record}
 use Rattle.record_rule.proofs.Lists.{below_at}
@@ -45,7 +45,8 @@ free_is setup g n free = by (is_scanned setup g) refl free
     by true e f = (eqb-true (length g.loaded) (2 * setup.callers) e, off (is_met g.loaded n.birth n.stamp) f)
     by false e f = let none : ⊥ = cc in absurd none
 
-pub all_lack : (setup : Setup) (x : SchemeInput) (i d generation b n stamp r e : ℕ) (g k : Guard) → IsSafe setup x → GuardsFit IbrFits setup x → At x.guards d g → At x.cells i (limbo d generation b n stamp r) → ibr_free setup g (limbo_record i generation b stamp) ≡ true → At x.guards e k → Lacks x k (refer (i + 1) generation)
+pub all_lack : (setup : Setup) (x : SchemeInput) (i d generation b n stamp r e : ℕ) (g k : Guard) → IsSafe setup x → GuardsFit IbrFits setup x → At x.guards d g → At x.cells i (limbo d generation b n stamp r)
+    → ibr_free setup g (limbo_record i generation b stamp) ≡ true → At x.guards e k → Lacks x k (refer (i + 1) generation)
 all_lack setup x i d generation b n stamp r e g k safe h at cell free there = let full = free_is setup g (limbo_record i generation b stamp) free in let l = below_at x.guards e k there in let m = safe.callers in
     (h d g at).scan i generation b n stamp r e k cell there (ends_miss g.loaded b stamp e (let z = full.0 in omega arith) full.1)
 

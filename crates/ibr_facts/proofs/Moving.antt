@@ -1,5 +1,5 @@
 -- Records move, or the epoch, and no guard changes.
-use Rattle.std.proofs.Common.{◌≡◌, ◌≢◌, ℕ, ◌+◌, ◌-◌, ◌<◌, ◌≤◌, ◌⊎◌, List, [], ◌∷◌, ◌++◌, length, length-append, set, Option, Some, None, sym, refl, ap, ◌∙◌, subst, arith, ⊎_elim, inl, inr}
+use Rattle.std.proofs.Common.{◌≡◌, ◌≢◌, ℕ, ◌+◌, ◌-◌, ◌<◌, ◌≤◌, ◌⊎◌, List, [], ◌∷◌, ◌++◌, length, length-append, set, Some, None, refl, subst, arith, ⊎_elim, inl, inr}
 use Rattle.atomic_table.proofs.Lists.{at_set}
 use Rattle.record_memory.specs.declared.books.Setup.{Setup}
 use Rattle.record_memory.specs.declared.books.Guard.{Guard}
@@ -65,17 +65,18 @@ exchanges_so setup x old new h up is = (
 
 -- a new table
 pub starts_so : (setup : Setup) → 0 < setup.roots → IbrCovered setup (opening_scheme setup (first_guard PLACES (1 ∷ [])))
-starts_so setup positive = let g : Guard = first_guard PLACES (1 ∷ []) in let cell : (i : ℕ) (c : SchemeCell) → At (opening_scheme setup g).cells i c → (rooted ≡ c) ⊎ (unseen ≡ c) = (λ i c at. ⊎_elim (λ p. inl p.1) (λ p. inr p.1) (at_runs setup.roots (setup.records - setup.roots) i rooted unseen c at)) in (
-  λ d k at. subst (IbrFits setup (opening_scheme setup g) d) (at_replicate setup.callers d g k at).1 record {
-    lower = omega arith;
-    upper = omega arith;
-    top = omega arith;
-    read = omega arith;
-    outside = λ e. (holds_nothing PLACES, refl);
-    holds = λ t e. absurd (holds_nothing PLACES e.0 t e.1);
-    waits = λ p t e. none_waits None p t refl e;
-    stamped = λ c i generation b n o here there lt. ⊎_elim (λ e. absurd (holds_nothing PLACES e.0 (refer (i + 1) generation) e.1)) (λ e. none_waits None e.0 (refer (i + 1) generation) refl e.1);
-    scan = λ i generation b n stamp r c o here. ⊎_elim (λ p. let none : ⊥ = cc in absurd none) (λ p. let none : ⊥ = cc in absurd none) (cell i (limbo d generation b n stamp r) here);
-  },
-  λ i c at. ⊎_elim (λ p. subst (λ (c : SchemeCell). IsBornBy c 1) p tt) (λ p. subst (λ (c : SchemeCell). IsBornBy c 1) p tt) (cell i c at),
-)
+starts_so setup positive = let g : Guard = first_guard PLACES (1 ∷ []) in
+    let cell : (i : ℕ) (c : SchemeCell) → At (opening_scheme setup g).cells i c → (rooted ≡ c) ⊎ (unseen ≡ c) = (λ i c at. ⊎_elim (λ p. inl p.1) (λ p. inr p.1) (at_runs setup.roots (setup.records - setup.roots) i rooted unseen c at)) in (
+      λ d k at. subst (IbrFits setup (opening_scheme setup g) d) (at_replicate setup.callers d g k at).1 record {
+        lower = omega arith;
+        upper = omega arith;
+        top = omega arith;
+        read = omega arith;
+        outside = λ e. (holds_nothing PLACES, refl);
+        holds = λ t e. absurd (holds_nothing PLACES e.0 t e.1);
+        waits = λ p t e. none_waits None p t refl e;
+        stamped = λ c i generation b n o here there lt. ⊎_elim (λ e. absurd (holds_nothing PLACES e.0 (refer (i + 1) generation) e.1)) (λ e. none_waits None e.0 (refer (i + 1) generation) refl e.1);
+        scan = λ i generation b n stamp r c o here. ⊎_elim (λ p. let none : ⊥ = cc in absurd none) (λ p. let none : ⊥ = cc in absurd none) (cell i (limbo d generation b n stamp r) here);
+      },
+      λ i c at. ⊎_elim (λ p. subst (λ (c : SchemeCell). IsBornBy c 1) p tt) (λ p. subst (λ (c : SchemeCell). IsBornBy c 1) p tt) (cell i c at),
+    )

@@ -1,5 +1,5 @@
 -- A caller follows a link: what it leads to waits, and its place holds nothing.
-use Rattle.std.proofs.Common.{◌≡◌, ◌≢◌, ℕ, ◌+◌, ◌-◌, ◌<◌, ◌≤◌, ◌⊎◌, List, length, length-set, set, Option, Some, None, sym, refl, ap, ◌∙◌, subst, arith, ⊎_elim, inl, inr}
+use Rattle.std.proofs.Common.{◌≡◌, ◌≢◌, ℕ, ◌+◌, ◌-◌, ◌<◌, ◌≤◌, ◌⊎◌, length-set, set, Option, Some, None, sym, refl, ap, subst, arith, ⊎_elim, inl, inr}
 use Rattle.std.specs.Prelude.{MatchOption}
 use native.Mathlib.Decide.{dec_lt}
 use Rattle.atomic_table.proofs.Lists.{at_set}
@@ -11,7 +11,7 @@ use Rattle.record_rule.specs.Facts.{At, Moment, Reach}
 use Rattle.record_rule.specs.Laws.{with_guard, HasReached}
 use Rattle.record_rule.proofs.Lists.{one_at}
 use Rattle.guard_facts.specs.Announcing.{word_of}
-use Rattle.ibr_facts.specs.Intervals.{HoldsSomewhere, WaitsFor}
+use Rattle.ibr_facts.specs.Intervals.{HoldsSomewhere}
 use Rattle.ibr_facts.specs.Keeping.{IbrCovered, waiting_at, ibr_reached, ibr}
 use Rattle.ibr_facts.proofs.Guarding.{changes, stamped_on}
 

@@ -1,5 +1,5 @@
 -- A record is retired with its owner's last reading as its stamp.
-use Rattle.std.proofs.Common.{◌≡◌, ℕ, ◌+◌, ◌-◌, ◌<◌, ◌≤◌, List, [], length, set, Option, Some, None, sym, refl, ap, ◌∙◌, subst, arith, ⊎_elim, inl, inr}
+use Rattle.std.proofs.Common.{◌≡◌, ℕ, ◌+◌, ◌<◌, List, [], sym, ap, ◌∙◌, subst, arith, ⊎_elim, inl, inr}
 use Rattle.atomic_table.proofs.Lists.{at_set}
 use Rattle.record_memory.specs.declared.books.Setup.{Setup}
 use Rattle.record_memory.specs.declared.books.Guard.{Guard}
@@ -8,7 +8,7 @@ use Rattle.record_rule.specs.Inputs.{SchemeCell, unretired, limbo, SchemeInput}
 use Rattle.record_rule.specs.Facts.{At}
 use Rattle.record_rule.specs.Laws.{with_cell}
 use Rattle.record_rule.proofs.Lists.{each_set, one_at}
-use Rattle.guard_facts.specs.Announcing.{word_of, reading}
+use Rattle.guard_facts.specs.Announcing.{reading}
 use Rattle.ibr_facts.specs.Intervals.{MeetsGuard, Has, EndsMiss, IsBornBy}
 use Rattle.ibr_facts.specs.Keeping.{IbrCovered}
 use Rattle.ibr_facts.proofs.Meeting.{meets_set, nothing_missed}
@@ -21,8 +21,11 @@ puts_so setup x i d generation b n stamp g h at mine is late idle = let new : Sc
       let meets : (t : RefParts) → Has k t → MeetsGuard x k t → MeetsGuard (with_cell x i new) k t = (λ t has m. meets_set x i (unretired d generation b n) new k t at
       (λ a z s. (
         a,
-        (z, let name : t ≡ refer (i + 1) generation = (let pos = m.1 in λ j. record { index = (let q : t.index ≡ i + 1 = omega arith in q) j; generation = sym a.0 j }) in
-            let low = f.stamped d i generation b n g at mine late (subst (Has k) name has) in omega arith),
+        (
+          z,
+          let name : t ≡ refer (i + 1) generation = (let pos = m.1 in λ j. record { index = (let q : t.index ≡ i + 1 = omega arith in q) j; generation = sym a.0 j }) in
+              let low = f.stamped d i generation b n g at mine late (subst (Has k) name has) in omega arith,
+        ),
       )) m) in record {
         lower = f.lower;
         upper = f.upper;

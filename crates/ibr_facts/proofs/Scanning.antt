@@ -4,15 +4,14 @@ use Rattle.std.proofs.lemmas.Bool.{eqb-true}
 use Rattle.record_memory.specs.declared.books.Setup.{Setup}
 use Rattle.record_memory.specs.declared.books.Guard.{Guard}
 use Rattle.record_memory.specs.declared.steps.Word.TheVariants.{Announced}
-use Rattle.row_words.specs.Refs.{RefParts, refer}
-use Rattle.record_rule.specs.Inputs.{SchemeCell, limbo, SchemeInput}
+use Rattle.record_rule.specs.Inputs.{SchemeInput}
 use Rattle.record_rule.specs.Facts.{At}
 use Rattle.record_rule.specs.Laws.{with_guard, ValueIs, HasLoaded, HasCleared}
 use Rattle.record_rule.proofs.Lists.{each_set, get_at, one_at}
 use Rattle.record_rule.proofs.Seats.{at_end}
 use Rattle.guard_facts.specs.Announcing.{word_of, GuardsFit}
 use Rattle.guard_facts.proofs.Replaced.{holds_on}
-use Rattle.ibr_facts.specs.Intervals.{EndsMiss, Lacks, IbrFits}
+use Rattle.ibr_facts.specs.Intervals.{EndsMiss, IbrFits}
 use Rattle.ibr_facts.specs.Keeping.{ibr_scanned}
 use Rattle.ibr_facts.proofs.Meeting.{lacks_missed}
 use Rattle.ibr_facts.proofs.Guarding.{changes, stamped_on, fits_unscanned, same_guards}

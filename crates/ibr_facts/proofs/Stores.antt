@@ -1,10 +1,9 @@
 -- A caller stores an end of its interval. What waits doesn't outlast it.
-use Rattle.std.proofs.Common.{◌≡◌, ℕ, ◌+◌, ◌<◌, ◌≤◌, ◌⊎◌, List, length, map, get_or, set, cond, eqb, Bool, true, false, Option, Some, None, sym, refl, ap, ◌∙◌, subst, arith, ⊎_elim, inl, inr, get_or-set_same, get_or-set_other}
-use Rattle.std.proofs.lemmas.Bool.{eqb-true, eqb-false}
+use Rattle.std.proofs.Common.{◌≡◌, ℕ, ◌+◌, ◌≤◌, length, map, set, cond, eqb, Bool, true, false, None, sym, refl, ◌∙◌, subst, arith, ⊎_elim, inl, get_or-set_same, get_or-set_other}
 use Rattle.record_memory.specs.declared.books.Setup.{Setup}
 use Rattle.record_memory.specs.declared.books.Guard.{Guard}
-use Rattle.row_words.specs.Refs.{RefParts, refer}
-use Rattle.record_rule.specs.Inputs.{SchemeCell, SchemeInput}
+use Rattle.row_words.specs.Refs.{refer}
+use Rattle.record_rule.specs.Inputs.{SchemeInput}
 use Rattle.record_rule.specs.Facts.{At, Moment}
 use Rattle.record_rule.specs.Guards.{nothing_at}
 use Rattle.record_rule.specs.Laws.{moment, with_guard, IsSafe, HasStored}

@@ -1,12 +1,12 @@
 -- Which records an announced interval of epochs meets, and what is known of a guard whose words are its ends.
-use Rattle.std.specs.Prelude.{◌≡◌, ℕ, ◌+◌, ◌-◌, ◌*◌, ◌<◌, ◌≤◌, ◌⊎◌, List, length, Option, Some, None}
+use Rattle.std.specs.Prelude.{◌≡◌, ℕ, ◌+◌, ◌-◌, ◌*◌, ◌<◌, ◌≤◌, ◌⊎◌, List, length, Some, None}
 use Rattle.record_memory.specs.declared.books.Setup.{Setup}
 use Rattle.record_memory.specs.declared.books.Guard.{Guard}
 use Rattle.row_words.specs.Refs.{RefParts, refer}
 use Rattle.record_rule.specs.Inputs.{SchemeCell, unseen, rooted, reachable, unpublished, unretired, limbo, SchemeInput}
 use Rattle.record_rule.specs.Facts.{At}
 use Rattle.record_rule.specs.Laws.{IsThereAs}
-use Rattle.guard_facts.specs.Announcing.{word_of, reading, HoldsNothing, GuardsFit}
+use Rattle.guard_facts.specs.Announcing.{word_of, reading, HoldsNothing}
 
 -- Word 0 of a guard is the lower end of its interval, 0 where it has none, and word 1 the upper end
 

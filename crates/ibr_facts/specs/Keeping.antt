@@ -7,7 +7,7 @@ use Rattle.record_memory.specs.declared.steps.Word.TheVariants.{Epoch, Announced
 use Rattle.row_words.specs.Refs.{RefParts}
 use Rattle.set_model.specs.declared.names.ReclaimerName.TheVariants.{Ibr}
 use Rattle.record_rule.specs.Inputs.{SchemeCell, SchemeInput}
-use Rattle.record_rule.specs.Facts.{At, Moment, Reach, LimboRecord, CoverFacts}
+use Rattle.record_rule.specs.Facts.{At, Moment, LimboRecord, CoverFacts}
 use Rattle.record_rule.specs.Guards.{holding}
 use Rattle.guard_facts.specs.Announcing.{LAST_EPOCH, word_of, reading, GuardsFit, first_guard, announcing, entered, left}
 use Rattle.ibr_facts.specs.Intervals.{IsBornBy, IbrFits}
