@@ -38,7 +38,7 @@ Has g t = HoldsSomewhere g t ⊎ WaitsFor g t
 abbrev pub EndsMiss : List ℕ → ℕ → ℕ → ℕ → Type 0
 EndsMiss loaded c b stamp = ((l : ℕ) × At loaded (2 * c) l × ((l ≡ 0) ⊎ (stamp < l))) ⊎ ((u : ℕ) × At loaded (2 * c + 1) u × (u < b))
 
--- a record that was handed out has a birth of at most this epoch
+-- the birth of a record that was handed out is at most this epoch
 abbrev pub IsBornBy : SchemeCell → ℕ → Type 0
 IsBornBy unseen epoch = Unit {0}
 IsBornBy rooted epoch = Unit {0}
@@ -47,7 +47,7 @@ IsBornBy (unpublished d e b) epoch = b ≤ epoch
 IsBornBy (unretired d e b n) epoch = b ≤ epoch
 IsBornBy (limbo d e b n s r) epoch = b ≤ epoch
 
--- what a caller doesn't have: it doesn't hold the record, and where it waits for it, the epoch is above its upper end, so that nothing can confirm it
+-- the caller doesn't hold the record, and where it waits for it, the epoch is above its upper end, so that no load confirms it
 abbrev pub Lacks : SchemeInput → Guard → RefParts → Type 0
 Lacks x g t = (HoldsSomewhere g t → ⊥) × (WaitsFor g t → word_of g 1 < x.epoch)
 
@@ -56,9 +56,11 @@ pub record IbrFits (setup : Setup) (x : SchemeInput) (d : ℕ) (g : Guard) : Typ
   pub lower : word_of g 0 ≤ x.epoch
   pub upper : word_of g 1 ≤ reading g 0
   pub top : reading g 0 ≤ x.epoch
+  -- the reading isn't of the future
   pub read : g.reading_taken_out ≤ length x.taken_out
   -- without an interval nothing is held and nothing waits
   pub outside : word_of g 0 ≡ 0 → HoldsNothing g × (g.pending ≡ None)
+  -- what is held is there, and met
   pub holds : (t : RefParts) → HoldsSomewhere g t → MeetsGuard x g t
   -- of what waits: the epoch is above the upper end, or it is there and met; its place holds nothing
   pub waits : (p : ℕ) (t : RefParts) → g.pending ≡ Some (p, t) → ((u : RefParts) → ¬ At g.holds p (Some u)) × ((word_of g 1 < x.epoch) ⊎ MeetsGuard x g t)
