@@ -1,0 +1,11 @@
+pub mod Meeting
+pub mod Moving
+pub mod Guarding
+pub mod Retiring
+pub mod Reaching
+pub mod EpochLoads
+pub mod Scanning
+pub mod Stores
+pub mod Missing
+pub mod Freeing
+pub mod KeepingLaws
