@@ -29,7 +29,7 @@ use Rattle.manager.proofs.CallerSums.{callers_had}
 use Rattle.set_api.specs.declared.answer.Answer.{Answer}
 use Rattle.set_api.specs.Hands.{LeavesNoneInHand}
 use Rattle.set_runs.specs.Runs.{IsSetRun}
-use Rattle.run_facts.specs.Counts.{CountsFit}
+use Rattle.run_facts.specs.Counts.{ShowsMoves}
 use Rattle.run_facts.proofs.Hands.{run_hands_free}
 use Rattle.run_facts.proofs.Unreclaimed.{sum_zero}
 
@@ -165,7 +165,7 @@ module _ {s : ShapeFacts} {c : CoverFacts} {steps : Setup → Call → ℕ → A
   none_handing : count_in (is_had is_handing) records ≡ 0
   none_handing = omega (arith, none_in_hand, hand_sum records)
 
-  pub counts_fit : IsListSet s → CountsFit closed
+  pub counts_fit : IsListSet s → ShowsMoves closed
   counts_fit list_set = let l = closed_lists list_set run.fits in let f = run.fits.counted in let m = run.fits.moved in record {
     records = records;
     taken_out = run.fits.taken_out;

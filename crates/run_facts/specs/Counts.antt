@@ -9,16 +9,12 @@ use Rattle.record_rule.specs.Inputs.{shape_cell}
 use Rattle.record_rule.specs.PlaceCounts.{count_in, generation_in, is_from}
 use Rattle.record_rule.specs.Records.{Record}
 use Rattle.record_rule.specs.Standings.{is_linked, is_limbo, is_free, is_spare, is_spent}
-use Rattle.record_table.specs.Closing.{closed_books, closed_setup, closed_words, history_of}
+use Rattle.record_table.specs.Closing.{closed_books, closed_setup, history_of}
 use Rattle.record_table.specs.declared.closing.Closed.{Closed}
 use Rattle.reclaim_api.specs.Frames.{had}
-use Rattle.list_facts.specs.ClosedLists.{table_rows}
 use Rattle.list_facts.specs.Tellings.{is_marked_cell}
 use Rattle.closed_lists.specs.Listed.{AreListsOf}
-
--- the rows of its words
-abbrev pub closed_rows : Closed → List (List ℕ)
-closed_rows c = table_rows (closed_setup c) (closed_words c)
+use Rattle.key_sums.specs.Sums.{closed_rows}
 
 -- how often the records were handed out anew, by their rows: their generations less the first one
 abbrev pub anew_in : Closed → ℕ
@@ -31,7 +27,8 @@ linked_in records = count_in is_linked records
 abbrev pub marked_in : List Record → ℕ
 marked_in records = count_by is_marked_cell (map shape_cell records)
 
-pub record CountsFit (c : Closed) : Type 0 where
+-- The moves of all callers are those that its rows, its records and its history show
+pub record ShowsMoves (c : Closed) : Type 0 where
   -- its records, of which those that are linked stand on the paths of the roots, and those that were taken out
   pub records : List Record
   pub taken_out : List RefParts
@@ -39,11 +36,11 @@ pub record CountsFit (c : Closed) : Type 0 where
   -- roots aside, so many rows have the first generation or a later one
   pub drawn : (closed_setup c).roots + sum_by drawn_by (closed_books c) ≡ count_by (is_from (closed_setup c).first) (closed_rows c)
   pub reused : sum_by reused_by (closed_books c) ≡ anew_in c
-  -- each removal of the history is of a record that was retired, or is linked still and has a mark
+  -- the history has a removal for each record that was retired and for each that is linked and has a mark
   pub retired : sum_by retired_by (closed_books c) + marked_in records ≡ removals_in (history_of c)
-  -- each record that was drawn is linked, or in limbo, free, spare or spent of some caller
+  -- as many were drawn as are linked, and in limbo, free, spare or spent of some caller
   pub places : sum_by (had is_limbo) (closed_books c) + sum_by (had is_free) (closed_books c) + sum_by (had is_spare) (closed_books c) + sum_by (had is_spent) (closed_books c) + linked_in records ≡ sum_by drawn_by (closed_books c)
-  -- what was freed was handed out anew, or is free or spent; and what was retired was freed, or is in limbo
+  -- as many were freed as were handed out anew, are free and are spent; and as many retired as were freed and are in limbo
   pub freed : sum_by freed_by (closed_books c) ≡ sum_by reused_by (closed_books c) + sum_by (had is_free) (closed_books c) + sum_by (had is_spent) (closed_books c)
   pub limbo : sum_by (had is_limbo) (closed_books c) + sum_by freed_by (closed_books c) ≡ sum_by retired_by (closed_books c)
 

@@ -1,4 +1,4 @@
-// Where a call that changed nothing stands in the one history: behind just as many updates as had taken effect at the load
+// Where a call that changed nothing stands in the one history: behind just as many updates as its caller noted at the load
 // that showed its answer.
 ghost use Rattle.std.specs.Prelude.{◌≡◌, ℕ};
 ghost use Rattle.record_rule.specs.Links.{note_in};
@@ -16,7 +16,8 @@ use reclaim_api::Scheme;
 use record_table::{Held, Shape};
 use set_model::Call;
 
-/// Places a read that the guard's last load of a link showed.
+/// Places a read behind as many updates as its caller noted last: at a load of a link, at an exchange that was made, or
+/// at its guard's start, whichever came last.
 pub fn place_seen<'a, S: Shape, R: Scheme, A: Allocator, P: Pool>(
     guard: &mut Guard<'a, S, R, A, P>,
     call: Call,
@@ -52,7 +53,8 @@ fn place_by<'a, S: Shape, R: Scheme, A: Allocator, P: Pool>(
     guard.place(call, reply);
 }
 
-/// Places a read that the load showed by which this record was reached, though the guard has loaded links since.
+/// Places a read behind as many updates as its caller noted at the load by which this record was reached, though the
+/// guard has loaded links since.
 pub fn place_reached<'a, S: Shape, R: Scheme, A: Allocator, P: Pool>(
     guard: &mut Guard<'a, S, R, A, P>,
     held: &Held,

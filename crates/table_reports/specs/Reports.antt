@@ -1,7 +1,7 @@
 -- What a report tells of the keys of a closed table, and of its records.
 use Rattle.std.specs.Prelude.{◌≡◌, ◌+◌, List, count_by, sum_by}
 use Rattle.closed_lists.specs.Listed.{AreListsOf}
-use Rattle.key_sums.specs.Sums.{AreSums}
+use Rattle.key_sums.specs.Sums.{AreSums, closed_rows}
 use Rattle.key_sums.specs.Tallies.{is_addition, is_removal, key_sum}
 use Rattle.record_rule.specs.PlaceCounts.{is_from}
 use Rattle.record_rule.specs.Records.{Record}
@@ -10,7 +10,7 @@ use Rattle.record_table.specs.declared.closing.Closed.{Closed}
 use Rattle.report_text.specs.declared.report.Played.{Played}
 use Rattle.report_text.specs.declared.report.Report.{Report}
 use Rattle.row_words.specs.Refs.{RefParts}
-use Rattle.run_facts.specs.Counts.{anew_in, closed_rows, linked_in, marked_in}
+use Rattle.run_facts.specs.Counts.{anew_in, linked_in, marked_in}
 use Rattle.run_facts.specs.Replies.{with_replies}
 use Rattle.set_model.specs.declared.calls.Call.{Call}
 use Rattle.set_model.specs.declared.calls.Counts.{Counts}
@@ -42,9 +42,9 @@ pub record TellsCounts (closed : Closed) (n : Counts) : Type 0 where
   -- roots aside, so many rows have the first generation or a later one, and these lie so much behind the first
   pub drawn : (closed_setup closed).roots + n.drawn ≡ count_by (is_from (closed_setup closed).first) (closed_rows closed)
   pub reused : n.reused ≡ anew_in closed
-  -- each removal of the history retired a record, or left it linked with a mark
+  -- the history has a removal for each record that was retired and for each that is linked with a mark
   pub retired : n.retired + marked_in records ≡ removals_in (history_of closed)
   pub freed : n.freed ≡ n.reused + n.free + n.spent
   pub limbo : n.limbo + n.freed ≡ n.retired
-  -- what was drawn is linked, or in one of these places
+  -- as many were drawn as are linked and in these places
   pub places : n.limbo + n.free + n.spare + n.spent + linked_in records ≡ n.drawn
