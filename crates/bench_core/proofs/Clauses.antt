@@ -11,7 +11,6 @@ use Rattle.command_words.specs.declared.command.TrialWords.{TrialWords}
 use Rattle.command_words.specs.declared.command.Workloads.{Workloads}
 use Rattle.lawful_pairs.specs.Table.{is_lawful}
 use Rattle.lawful_pairs.specs.declared.Unlawful.{Unlawful}
-use Rattle.list_facts.specs.Michael.{michael}
 use Rattle.outside.specs.Bytes.{with_front}
 use Rattle.outside.specs.Faults.{Rose, one_more}
 use Rattle.paired_replies.specs.Pairs.{calls_of}
@@ -31,7 +30,6 @@ use Rattle.set_model.specs.declared.names.ReclaimerName.{ReclaimerName}
 use Rattle.set_model.specs.declared.names.SetName.{SetName}
 use Rattle.set_model.specs.declared.names.SetName.TheVariants.{Plain}
 use Rattle.set_model.specs.Machine.{insertions_in}
-use Rattle.table_reports.specs.History.{IsOneHistory}
 use Rattle.table_reports.specs.Reports.{TellsCounts, TellsKeys, RepliesAddUp}
 use Rattle.workload_text.proofs.Held.{some_is}
 use Rattle.workload_text.proofs.TextLength.{length-text_of-le}
@@ -48,11 +46,11 @@ use Rattle.bench_core.specs.Sizes.{sizes_of}
 use Rattle.bench_core.specs.Ending.{AreNoCommand, Counts, Ends, Finds, FindsIn, FindsMade, GaveNoWorkload, GaveWorkload, HasParts, HasText, IsAllowed, IsMade, IsPlayed, NamesUnlawful, Reads, Tells, has_full, status_with, output_of, run_of, status_of, status_of_run}
 use Rattle.bench_core.specs.Plays.{AreAlone}
 use Rattle.bench_core.specs.Settings.{played_as}
-use Rattle.bench_core.specs.Tables.{HasEnough, IsHashRun, all_insertions}
+use Rattle.bench_core.specs.Tables.{HasEnough, HasOneHistory, IsHashRun, all_insertions}
 use Rattle.bench_core.proofs.Alone.{trial_alone}
 use Rattle.bench_core.proofs.Enough.{plain_enough}
 use Rattle.bench_core.proofs.NeverFull.{run-not_full}
-use Rattle.bench_core.proofs.PlayedPairs.{frees_none, has_table, on_table}
+use Rattle.bench_core.proofs.PlayedPairs.{frees_none, has_table, on_table, table_history}
 use Rattle.bench_core.proofs.Telling.{status_of_run-is}
 use Rattle.bench_core.proofs.Verdicts.{is_WordsRefused, is_Unlawful, is_ReadFault, is_TooLong, is_WorkloadRefused, is_OutOfMemory}
 
@@ -333,11 +331,11 @@ module _ {S K : Type 0} {left : S → Option (List ℕ)} {source_faults : S → 
   ]
 
   pub one_history : (r : Run) (closed : Closed) → ended.run ≡ Some r → r.closed ≡ Some closed
-      → (plan : Plan) × WasGiven left source source' words plan × (calls_of r.report.callers ≡ joined plan.lists) × IsOneHistory michael plan.lists r.report.callers closed
+      → (plan : Plan) × WasGiven left source source' words plan × (calls_of r.report.callers ≡ joined plan.lists) × HasOneHistory r.report.set plan.lists r.report.callers closed
   one_history r closed is there = elim (run r is).2 [
-    | inl play ↦ (play.plan, inl (play.chosen, play.named, play.gave), play.played.calls, (on_table play.chosen.set play.chosen.reclaimer play.chosen play.plan r play.played.played closed there).history)
+    | inl play ↦ (play.plan, inl (play.chosen, play.named, play.gave), play.played.calls, table_history play.chosen.set play.chosen.reclaimer play.chosen play.plan r play.played.played play.played.set_is closed there)
     | inr trial ↦ let own = played_as trial.chosen in
-        (trial.plan, inr (trial.chosen, trial.named, trial.made), trial.played.calls, (on_table own.set own.reclaimer own trial.plan r trial.played.played closed there).history)
+        (trial.plan, inr (trial.chosen, trial.named, trial.made), trial.played.calls, table_history own.set own.reclaimer own trial.plan r trial.played.played trial.played.set_is closed there)
   ]
 
   pub keys : (r : Run) (closed : Closed) → ended.run ≡ Some r → r.closed ≡ Some closed → TellsKeys closed r.report

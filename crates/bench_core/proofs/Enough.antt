@@ -1,10 +1,9 @@
 -- A table has as many records as are needed, unless the words choose fewer.
-use Rattle.std.proofs.Common.{◌≡◌, ℕ, ◌+◌, ◌≤◌, Option, Some, None, List, refl, ap, subst, arith}
+use Rattle.std.proofs.Common.{◌≡◌, ℕ, ◌+◌, ◌≤◌, Option, Some, None, ap, arith}
 use Rattle.std.specs.Prelude.{IfSome}
 use Rattle.std.proofs.Math.Nat.{min-eq_left}
-use Rattle.set_model.specs.declared.calls.Call.{Call}
 use Rattle.set_model.specs.declared.names.SetName.{SetName}
-use Rattle.set_model.specs.declared.names.SetName.TheVariants.{Plain, Michael, Lazy}
+use Rattle.set_model.specs.declared.names.SetName.TheVariants.{Plain, Michael}
 use Rattle.command_words.specs.declared.command.PlayWords.{PlayWords}
 use Rattle.workload_text.specs.Limits.{Plan, IsWorkload}
 use Rattle.bench_core.specs.Tables.{HasEnough, all_insertions, needed, needed_for, records_chosen, records_for, roots_in}

@@ -11,8 +11,7 @@ use Rattle.report_text.specs.ReportText.{report_text}
 use Rattle.report_text.specs.SummaryText.{summary_text}
 use Rattle.report_text.specs.declared.refusal.WorkloadRefusal.{WorkloadRefusal}
 use Rattle.set_model.specs.Machine.{insertions_in}
-use Rattle.set_model.specs.declared.calls.Call.{Call}
-use Rattle.workload_text.specs.Limits.{Plan, joined}
+use Rattle.workload_text.specs.Limits.{Plan}
 use Rattle.workload_text.specs.Text.{IsTextOf}
 use Rattle.bench_core.specs.declared.ending.Run.{Run}
 use Rattle.bench_core.specs.Ending.{GaveNoWorkload, GaveWorkload, IsAllowed, IsMade, IsRun, NamesUnlawful, Reads}

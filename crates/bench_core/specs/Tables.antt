@@ -9,6 +9,7 @@ use Rattle.michael_hash.specs.Pieces.{MakesPiece}
 use Rattle.paired_replies.specs.Pairs.{replies_to}
 use Rattle.record_table.specs.Closing.{closed_books}
 use Rattle.record_table.specs.declared.closing.Closed.{Closed}
+use Rattle.report_text.specs.declared.report.Played.{Played}
 use Rattle.report_text.specs.declared.report.Report.{Report}
 use Rattle.cover_facts.specs.Keeping.{none}
 use Rattle.hash_runs.specs.HashRuns.{IsNoneRun, hops_for, none_manner, none_setup}
@@ -67,3 +68,10 @@ pub record IsHashRun (chosen : PlayWords) (lists : List (List (List Call))) (rep
   -- and where the records are enough, none is there
   pub enough : HasEnough chosen (all_insertions lists) → All NoneIsFull (replies_to report.callers)
   pub unreclaimed : IsUnreclaimed report.counts
+
+-- The printed replies are those of the one history of the table that was closed, by the facts of its set. A set that joins
+-- adds a case; a plain one has no table
+abbrev pub HasOneHistory : SetName → List (List (List Call)) → List Played → Closed → Type 0
+HasOneHistory Plain lists callers closed = ⊥
+HasOneHistory Michael lists callers closed = IsOneHistory michael lists callers closed
+HasOneHistory Lazy lists callers closed = ⊥

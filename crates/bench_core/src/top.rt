@@ -6,7 +6,6 @@ ghost use Rattle.command_words.specs.declared.command.Command.TheVariants as com
 ghost use Rattle.command_words.specs.declared.command.TrialWords.{TrialWords};
 ghost use Rattle.command_words.specs.declared.command.Workloads.{Workloads};
 ghost use Rattle.lawful_pairs.specs.declared.Unlawful.{Unlawful};
-ghost use Rattle.list_facts.specs.Michael.{michael};
 ghost use Rattle.outside.specs.Faults.{Rose, one_more};
 ghost use Rattle.paired_replies.specs.Pairs.{calls_of};
 ghost use Rattle.record_table.specs.declared.closing.Closed.{Closed};
@@ -18,11 +17,11 @@ ghost use Rattle.run_facts.specs.Unreclaimed.{IsUnreclaimed};
 ghost use Rattle.set_model.specs.declared.calls.Call.{Call};
 ghost use Rattle.set_model.specs.declared.names.ReclaimerName.TheVariants.{Nothing};
 ghost use Rattle.set_model.specs.declared.names.SetName.TheVariants.{Plain};
-ghost use Rattle.table_reports.specs.History.{IsOneHistory};
 ghost use Rattle.table_reports.specs.Reports.{TellsCounts, TellsKeys, RepliesAddUp};
 ghost use Rattle.workload_text.specs.Limits.{Plan, joined};
 ghost use Rattle.workload_text.specs.Text.{text_of};
 ghost use Rattle.bench_core.specs.Clauses.{AreAllowed, AreNotRead, AreRead, AreUnlawful, ArePlayed, GaveRefused, GaveSomeWorkload, HoldsWorkload, IsDone, IsQuiet, IsRunOf, IsStopped, LeaveEnough, NamesPair, WasGiven};
+ghost use Rattle.bench_core.specs.Tables.{HasOneHistory};
 ghost use Rattle.bench_core.specs.Ending.{AreNoCommand, Ends, Finds, GaveNoWorkload, GaveWorkload, IsMade, has_full, output_of, run_of};
 ghost use Rattle.bench_core.specs.Plays.{AreAlone};
 ghost use Rattle.bench_core.specs.Reading.{GaveTooMany};
@@ -95,7 +94,7 @@ pub fn setbench<T: Threads + Wait + Sync, S: Source, K: Sink, G: Gate + Sync>(
     ensures closed { (run : Run) → result.run ≡ Some run → (run.report.set ≡ Plain) ↔ (run.closed ≡ None) }
     ensures one_history { (run : Run) (closed : Closed) → result.run ≡ Some run → run.closed ≡ Some closed
         → (plan : Plan) × WasGiven S.left source.old source.new (texts_of words.now) plan
-        × (calls_of run.report.callers ≡ joined plan.lists) × IsOneHistory michael plan.lists run.report.callers closed }
+        × (calls_of run.report.callers ≡ joined plan.lists) × HasOneHistory run.report.set plan.lists run.report.callers closed }
     ensures keys { (run : Run) (closed : Closed) → result.run ≡ Some run → run.closed ≡ Some closed → TellsKeys closed run.report }
     ensures adds_up { (run : Run) (closed : Closed) → result.run ≡ Some run → run.closed ≡ Some closed → RepliesAddUp run.report }
     ensures counts { (run : Run) (closed : Closed) → result.run ≡ Some run → run.closed ≡ Some closed → TellsCounts closed run.report.counts }
