@@ -1,7 +1,7 @@
 #!/usr/bin/env bash
-# Plays workloads of 1, 2 and 4 callers with shared keys on the hash table, with the proved program and with a plain Rust
-# program of the same algorithm, each five times in turn, and prints a table: the medians of the whole time, of the play
-# itself and of peak memory, with their ratios. README.md, beside this file, says more.
+# Plays workloads of 1, 2 and 4 callers with shared keys on the hash table under each reclaimer, with the proved program and
+# with a plain Rust program of the same algorithm, each five times in turn, and prints a table: the medians of the whole
+# time, of the play itself and of peak memory, with their ratios. README.md, beside this file, says more.
 #
 # It wants bash, python3 and rustc, for the peak memory GNU time, and `rt` in PATH where the proved
 # program has to be built. All that it writes goes to a temporary folder, which it deletes.
@@ -18,12 +18,14 @@ cp "$root/crates/setbench/out/setbench" "$work/setbench"
 rustc --edition 2021 -C opt-level=3 -o "$work/hash" "$bench/hash.rs"
 rustc --edition 2021 -O -o "$work/judge" "$bench/judge.rs"
 
-columns=(callers "calls of each" keys buckets)
+columns=(reclaimer callers "calls of each" keys buckets)
 for measured in "whole s" "play s" "peak KiB"; do columns+=("$measured, proved" plain ratio); done
 columns+=("bytes a record, proved" plain)
 printf '|' && printf ' %s |' "${columns[@]}" && echo
 printf '|' && printf -- '---|%.0s' "${columns[@]}" && echo
-for callers in 1 2 4; do
-    python3 -B "$bench/hash_table.py" "$work" $callers 250000 1000 64
+for reclaimer in none debra hazard; do
+    for callers in 1 2 4; do
+        python3 -B "$bench/hash_table.py" "$work" $reclaimer $callers 250000 1000 64
+    done
+    python3 -B "$bench/hash_table.py" "$work" $reclaimer 4 250000 100000 4096
 done
-python3 -B "$bench/hash_table.py" "$work" 4 250000 100000 4096

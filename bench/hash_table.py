@@ -1,9 +1,9 @@
 """Plays one workload on the hash table with two programs, five times each in turn, and prints one row about it.
 
-Use: hash_table.py FOLDER CALLERS CALLS KEYS BUCKETS. The folder has the programs `setbench`, `hash` and `judge`.
+Use: hash_table.py FOLDER RECLAIMER CALLERS CALLS KEYS BUCKETS. The folder has the programs `setbench`, `hash` and `judge`.
 
-The whole time and the peak memory are those of compare.py. Replies depend on how callers meet, so where there is more than
-one caller, the last report of each program is judged instead of compared. The play is the time from the end of the input
+The whole time and the peak memory are those of compare.py. Replies depend on how callers meet, so the last report of
+each program is judged, and compared only where there is one caller and nothing is reclaimed. The play is the time from the end of the input
 until the first byte of the report, less the same time of reading the workload alone: making the table, playing, and
 counting what is left. So it is measured from outside of both programs, in the same way.
 """
@@ -38,10 +38,10 @@ def judge(folder, source, report):
         sys.exit(f"{report}: {judged.stdout or judged.stderr}")
 
 
-def measure(folder, callers, source, buckets):
+def measure(folder, reclaimer, callers, source, buckets):
     """The medians of both programs: whole time, play, and peak of KiB."""
     proved, plain = os.path.join(folder, "setbench"), os.path.join(folder, "hash")
-    plays = [[proved, "play", "--set", "michael", "--reclaimer", "none", "--buckets", buckets], [plain, "play", buckets]]
+    plays = [[proved, "play", "--set", "michael", "--reclaimer", reclaimer, "--buckets", buckets], [plain, "play", buckets, reclaimer]]
     checks = [[proved, "check"], [plain, "check"]]
     taken, printed = [[], []], set()
     with tempfile.TemporaryDirectory() as scratch:
@@ -53,7 +53,7 @@ def measure(folder, callers, source, buckets):
                 play = silence(plays[at], source) - silence(checks[at], source)
                 taken[at].append((seconds, play, peak))
                 printed.add(digest(report))
-    if callers == "1" and len(printed) != 1:
+    if callers == "1" and reclaimer == "none" and len(printed) != 1:
         sys.exit("the outputs differ")
     for at in range(2):
         judge(folder, source, os.path.join(folder, f"report{at}.txt"))
@@ -61,15 +61,15 @@ def measure(folder, callers, source, buckets):
 
 
 def main():
-    folder, callers, calls, keys, buckets = sys.argv[1:]
+    folder, reclaimer, callers, calls, keys, buckets = sys.argv[1:]
     source = os.path.join(folder, "workload.txt")
     words = ["--callers", callers, "--calls", calls, "--keys", keys, "--seed", "7", "--shared", "yes"]
     with open(source, "wb") as text:
         subprocess.run([os.path.join(folder, "setbench"), "generate", *words], stdout=text, check=True)
     with open(source, "rb") as text:
         records = int(buckets) + sum(line.startswith(b"i ") for line in text)
-    proved, plain = measure(folder, callers, source, buckets)
-    row = [callers, calls, keys, buckets]
+    proved, plain = measure(folder, reclaimer, callers, source, buckets)
+    row = [reclaimer, callers, calls, keys, buckets]
     for at, form in enumerate((".3f", ".3f", ".0f")):
         row += [f"{proved[at]:{form}}", f"{plain[at]:{form}}", f"{proved[at] / plain[at]:.2f}"]
     row += [f"{proved[2] * 1024 / records:.0f}", f"{plain[2] * 1024 / records:.0f}"]

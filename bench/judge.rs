@@ -3,10 +3,10 @@
 //!
 //! Where the report can be right, it prints one line of names with values and ends with status 0: for how many keys an
 //! order was `searched` and found, and for how many it was only `counted`; whether one of all calls together, the `whole`,
-//! was found; whether the replies are those of one caller after another, `in_turn`; how many records are `spare`, and how
-//! many are `marked` and yet linked. Where it can't be right, it prints why not, after the word `refused`, and ends with
-//! status 1. Status 2: a file couldn't be read, or is no text of its kind. `--buckets N --records N` in front tell it of
-//! the table, so that it also judges how many records were drawn.
+//! was found; whether the replies are those of one caller after another, `in_turn`; how often a record was `reused`, how many
+//! are `spare`, and how many are `marked` and yet linked. Where it can't be right, it prints why not, after the word
+//! `refused`, and ends with status 1. Status 2: a file couldn't be read, or is no text of its kind. `--buckets N --records N`
+//! in front tell it of the table, so that it also judges how many records were drawn.
 //!
 //! Build it with `rustc --edition 2021 -O judge.rs`. README.md, beside this file, has the rules.
 
@@ -65,11 +65,8 @@ fn judged(table: Option<Table>, workload: Workload, report: &Report) -> Result<S
     let in_turn = if run.first_out_of_turn().is_none() { "yes" } else { "no" };
     let numbers = format!("callers {} calls {} full {}", report.callers, report.calls, run.fulls());
     let orders = format!("searched {} counted {} whole {} in_turn {in_turn}", keys.searched, keys.counted, keys.whole);
-    Ok(format!(
-        "right {numbers} {orders} spare {} marked {}",
-        report.counts.spare,
-        counts::marked(&run, &report.counts)
-    ))
+    let (marked, told) = (counts::marked(&run, &report.counts), &report.counts);
+    Ok(format!("right {numbers} {orders} reused {} spare {} marked {marked}", told.reused, told.spare))
 }
 
 fn main() -> ExitCode {

@@ -67,13 +67,14 @@ done
 
 # written STATUS WHAT CALLS REPLIES END..: a report on a hash table that is written here. Callers stand behind one another,
 # with `;` between them, and END is the last two lines.
+reclaimer=none
 written() {
     local status=$1 what=$2 callers=$3 ends=$4 counts=$5
     shift 5
-    tr ';' '\n' <<<"$callers" | awk -v report="$work/report.txt" -v workload="$work/workload.txt" -v ends="$ends" -v counts="$counts" '
+    tr ';' '\n' <<<"$callers" | awk -v report="$work/report.txt" -v workload="$work/workload.txt" -v ends="$ends" -v counts="$counts" -v reclaimer="$reclaimer" '
         { number = NR; caller[NR] = $0; total += NF / 3 }
         END {
-            print "set michael reclaimer none callers " number " calls " total >report
+            print "set michael reclaimer " reclaimer " callers " number " calls " total >report
             print "setbench 1\ncallers " number >workload
             for (c = 1; c <= number; c++) {
                 print "caller " c - 1 >report; print "caller " c - 1 >workload
@@ -108,6 +109,16 @@ written 0 "  a marked record stays linked" "i 9 yes r 9 yes;i 8 yes" "size 1 sum
 written 1 "  a marked record stays linked for one caller" "i 9 yes r 9 yes i 8 yes" "size 1 sum 8" "drawn 2 $one"
 written 1 "  a marked record stays linked behind a search" "i 9 yes r 9 yes s 9 no;i 8 yes" "size 1 sum 8" "drawn 2 $one"
 written 1 "  a record is freed" "i 9 yes r 9 yes" "size 0 sum 0" "drawn 1 reused 0 retired 1 freed 1 limbo 0 free 1 spare 0 spent 0"
+reclaimer=debra
+twice='reused 1 retired 1 freed 1 limbo 0 free 0 spare 0 spent 0'
+echo "and under DEBRA:"
+written 0 "  a record is freed" "i 9 yes r 9 yes" "size 0 sum 0" "drawn 1 reused 0 retired 1 freed 1 limbo 0 free 1 spare 0 spent 0"
+written 0 "  it is used again" "i 9 yes r 9 yes s 8 no s 8 no i 8 yes" "size 1 sum 8" "drawn 1 $twice"
+written 1 "  and another one was drawn, too" "i 9 yes r 9 yes s 8 no s 8 no i 8 yes" "size 1 sum 8" "drawn 2 $twice"
+written 1 "  a linked record is used again" "i 9 yes i 8 yes" "size 2 sum 17" "drawn 1 reused 1 retired 0 freed 0 limbo 0 free 0 spare 0 spent 0"
+written 1 "  a record is freed twice" "i 9 yes r 9 yes" "size 0 sum 0" "drawn 1 reused 0 retired 1 freed 2 limbo 0 free 1 spare 0 spent 0"
+written 1 "  a record is spent" "i 9 yes r 9 yes" "size 0 sum 0" "drawn 1 reused 0 retired 1 freed 1 limbo 0 free 0 spare 0 spent 1"
+written 1 "  a record is free and in limbo" "i 9 yes r 9 yes" "size 0 sum 0" "drawn 1 reused 0 retired 1 freed 1 limbo 1 free 1 spare 0 spent 0"
 
 [ $failed = 0 ] && echo "judge tests: passed"
 exit $failed

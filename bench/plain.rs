@@ -7,7 +7,7 @@ mod report;
 #[path = "plain/workload.rs"]
 mod workload;
 
-use report::{print_report, Left};
+use report::{print_report, Left, Records};
 use std::io::{self, BufWriter, Write};
 use std::process::ExitCode;
 use workload::{print_sizes, read_workload, Call, Caller, Workload};
@@ -106,7 +106,7 @@ fn played(workload: &Workload) -> Left {
             replies.extend(caller.phase(phase).iter().map(|call| apply(&mut keys, *call)));
         }
     }
-    Left { replies, size: keys.len() as u64, sum: keys.iter().sum(), records: [0; 3] }
+    Left { replies, size: keys.len() as u64, sum: keys.iter().sum(), records: Records::default() }
 }
 
 fn run(words: &[String]) -> Result<(), u8> {
@@ -115,7 +115,7 @@ fn run(words: &[String]) -> Result<(), u8> {
         Some("check") => print_sizes(&mut out, &read_workload()?),
         Some("play") => {
             let workload = read_workload()?;
-            print_report(&mut out, "plain", &workload, &played(&workload))
+            print_report(&mut out, "plain", "none", &workload, &played(&workload))
         }
         Some("generate") => {
             let numbers: Vec<u64> = words[1..].iter().filter_map(|word| word.parse().ok()).collect();

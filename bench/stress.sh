@@ -1,12 +1,24 @@
 #!/usr/bin/env bash
-# Plays 1,000 generated workloads on the hash table without reclamation, with keys that all callers share: 250 each with
-# 2, 4, 16 and 64 callers, and judges each report. Sizes, seeds, phases, buckets and records vary with the workload's
-# number, and each run of this script plays the same ones. README.md, beside this file, says more.
+# Plays generated workloads on the hash table, with keys that all callers share, and judges each report. `stress.sh` plays
+# 1,000 without reclamation, 250 each with 2, 4, 16 and 64 callers. `stress.sh debra` plays 900 under DEBRA, 300 each with 2,
+# 4 and 16 callers, on few records more than there are keys, so that most insertions use a record again; `stress.sh hazard`
+# as many with hazard pointers, where each caller may keep six records for each caller. Sizes, seeds, phases, buckets and
+# records vary with the workload's number, and each run of this script plays the same ones. README.md, beside this file,
+# says more.
 #
 # It prints what it judged, and ends with status 1 at the first report that is refused, whose workload, words and report
 # it keeps and names. It wants bash, awk and rustc, and `rt` in PATH where the proved program has to be built.
 set -eu
 
+reclaimer=${1-none}
+case $reclaimer in
+none) runs=1000 ;;
+debra | hazard) runs=900 ;;
+*)
+    echo "usage: stress.sh [none|debra|hazard]" >&2
+    exit 2
+    ;;
+esac
 bench=$(cd "$(dirname "$(readlink -f "${BASH_SOURCE[0]}")")" && pwd)
 root=$(dirname "$bench")
 work=$(mktemp -d)
@@ -42,8 +54,30 @@ draw() {
     drawn=$((state / 65536 % $1))
 }
 
+# few_records: sets the sizes of the workload with this number, of which most insertions have to use a record again: beside
+# the buckets and the keys there are 2 to 9 records for each caller, and with hazard pointers what its bag may have.
+few_records() {
+    local by_number=(2 4 16)
+    callers=${by_number[$((number % 3))]}
+    draw 5 && local totals=(1000 2000 4000 8000 16000)
+    calls=$((totals[drawn] / callers))
+    draw 5 && local sizes=(1 2 5 20 50)
+    keys=${sizes[$drawn]}
+    draw 4 && local tables=(1 3 16 64)
+    buckets=${tables[$drawn]}
+    draw 3 && phase=0
+    if [ "$drawn" = 0 ]; then draw 4 && phase=$((calls / (drawn + 2) + 1)); fi
+    local bag=0
+    [ "$reclaimer" = hazard ] && bag=$((6 * callers))
+    draw 8 && records=$((buckets + keys + callers * (drawn + 2 + bag)))
+}
+
 # plan: sets the words and the sizes of the workload with this number.
 plan() {
+    if [ "$reclaimer" != none ]; then
+        few_records
+        return
+    fi
     callers=$((number % 4)) && callers=$((callers == 0 ? 2 : callers == 1 ? 4 : callers == 2 ? 16 : 64))
     draw 5 && local totals=(200 1000 4000 8000 16000)
     calls=$((totals[drawn] / callers))
@@ -59,10 +93,10 @@ plan() {
     if [ "$drawn" = 0 ]; then draw 5 && records=$((buckets + callers * calls * (drawn + 1) / 24 + 1)); fi
 }
 
-for ((number = 0; number < 1000; number++)); do
+for ((number = 0; number < runs; number++)); do
     plan
     generate=(generate --callers "$callers" --calls "$calls" --keys "$keys" --seed "$number" --shared yes)
-    play=(play --set michael --reclaimer none --buckets "$buckets" --records "$records")
+    play=(play --set michael --reclaimer "$reclaimer" --buckets "$buckets" --records "$records")
     if [ "$phase" = 0 ]; then
         "$program" "${generate[@]}" >"$workload"
     else
@@ -84,10 +118,11 @@ done
 # The words of a line are the size of its phases, `right`, and the judge's names with values.
 awk '
     { runs++; phased += $1 > 0; for (at = 3; at < NF; at += 2) of[$at] += $(at + 1); by[$4]++
-      whole += /whole yes/; turn += /in_turn yes/; bare += / full [1-9]/ }
+      whole += /whole yes/; turn += /in_turn yes/; bare += / full [1-9]/; again += / reused [1-9]/ }
     END {
-        print "judged " runs ": callers 2 " by[2] ", 4 " by[4] ", 16 " by[16] ", 64 " by[64] "; with phases " phased
+        print "judged " runs ": callers 2 " by[2] ", 4 " by[4] ", 16 " by[16] ", 64 " by[64] + 0 "; with phases " phased
         print "replies " of["calls"] ", full " of["full"] " in " bare " runs; spare records " of["spare"] ", marked ones " of["marked"]
+        print "records used again " of["reused"] " times, in " again + 0 " runs"
         print "keys searched " of["searched"] ", only counted " of["counted"] "; all calls together ordered in " whole " runs"
         print "replies of one caller after another in " turn " runs"
     }' "$lines"

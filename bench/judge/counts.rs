@@ -1,12 +1,12 @@
 //! The counts of records, by what the replies say of them.
 //!
-//! A record is drawn for an insertion. It is linked by one that is answered yes, and is its caller's spare one else. A
-//! removal marks a record, and whoever takes it out retires it: the removal itself, or, where the record in front of it
-//! changed meanwhile, a later walk to this key or behind it in its bucket. So a record that was marked may stay linked to
-//! the end, and `retired` may be less than the number of removals that are answered yes.
+//! A record is drawn for an insertion, or one that was freed is used again. It is linked by one that is answered yes, and
+//! is its caller's spare one else. A removal marks a record, and whoever takes it out retires it: the removal itself, or,
+//! where the record in front of it changed meanwhile, a later walk to this key or behind it in its bucket. So a record that
+//! was marked may stay linked to the end, and `retired` may be less than the number of removals that are answered yes.
 
 use crate::report::{Answered, Counts, Reply};
-use crate::run::{Run, Set};
+use crate::run::{Reclaimer, Run, Set};
 use crate::workload::Kind;
 use std::collections::BTreeMap;
 
@@ -49,6 +49,11 @@ fn have_identities(counts: &Counts, added: u64, removed: u64) -> Result<(), Stri
 fn are_never_freed(counts: &Counts) -> Result<(), String> {
     let none = [counts.reused, counts.freed, counts.free, counts.spent];
     holds(none.iter().all(|count| *count == 0), "a record was freed where none may be")
+}
+
+/// A record is spent once it was used a million times and more, and no run has as many calls.
+fn are_never_spent(counts: &Counts) -> Result<(), String> {
+    holds(counts.spent == 0, "a record was spent where none may be")
 }
 
 /// Whether a caller other than this one made such a call in the phase.
@@ -123,7 +128,10 @@ pub fn judged(run: &Run, counts: &Counts, table: Option<Table>) -> Result<(), St
         return are_nothing(counts);
     }
     have_identities(counts, run.added(), run.removed())?;
-    are_never_freed(counts)?;
+    are_never_spent(counts)?;
+    if run.reclaimer == Reclaimer::Nothing {
+        are_never_freed(counts)?;
+    }
     are_within_bounds(run, counts)?;
     match table {
         Some(table) => fit_table(run, counts, table),

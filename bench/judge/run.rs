@@ -10,8 +10,16 @@ pub enum Set {
     Michael,
 }
 
+/// Whether records come back.
+#[derive(Clone, Copy, PartialEq, Eq)]
+pub enum Reclaimer {
+    Nothing,
+    Frees,
+}
+
 pub struct Run {
     pub set: Set,
+    pub reclaimer: Reclaimer,
     /// Of each phase, what each caller called in it and was told.
     pub phases: Vec<Vec<Vec<Answered>>>,
 }
@@ -39,10 +47,11 @@ impl Answered {
     }
 }
 
-fn set_of(report: &Report) -> Result<Set, String> {
+fn pair_of(report: &Report) -> Result<(Set, Reclaimer), String> {
     match (report.set.as_str(), report.reclaimer.as_str()) {
-        ("plain", "none") => Ok(Set::Plain),
-        ("michael", "none") => Ok(Set::Michael),
+        ("plain", "none") => Ok((Set::Plain, Reclaimer::Nothing)),
+        ("michael", "none") => Ok((Set::Michael, Reclaimer::Nothing)),
+        ("michael", "debra" | "hazard" | "2geibr") => Ok((Set::Michael, Reclaimer::Frees)),
         (set, reclaimer) => Err(format!("no rules for the set {set} under the reclaimer {reclaimer}")),
     }
 }
@@ -51,7 +60,7 @@ impl Run {
     /// The report is of just these calls, the callers in order, each reply one that its call can have, and its first line
     /// has their numbers.
     pub fn of(workload: Workload, report: &Report) -> Result<Run, String> {
-        let set = set_of(report)?;
+        let (set, reclaimer) = pair_of(report)?;
         let callers = workload.callers.len();
         if report.callers != callers as u64 || report.answered.len() != callers {
             return Err(format!("another number of callers than {callers}"));
@@ -78,7 +87,7 @@ impl Run {
         if report.calls != total {
             return Err(format!("another number of calls than {total}"));
         }
-        Ok(Run { set, phases })
+        Ok(Run { set, reclaimer, phases })
     }
 
     /// All calls, phase by phase, and in each phase one caller after another.

@@ -9,13 +9,23 @@ pub struct Left {
     pub replies: Vec<Vec<bool>>,
     pub size: u64,
     pub sum: u64,
-    /// How many records were drawn, were retired and lie in limbo, and are spare.
-    pub records: [u64; 3],
+    pub records: Records,
 }
 
-pub fn print_report(out: &mut impl Write, set: &str, workload: &Workload, left: &Left) -> io::Result<()> {
+/// How many records were drawn, reused and retired, and where they are. What was retired and isn't in limbo was freed.
+#[derive(Default)]
+pub struct Records {
+    pub drawn: u64,
+    pub reused: u64,
+    pub retired: u64,
+    pub limbo: u64,
+    pub free: u64,
+    pub spare: u64,
+}
+
+pub fn print_report(out: &mut impl Write, set: &str, reclaimer: &str, workload: &Workload, left: &Left) -> io::Result<()> {
     let (callers, total) = (workload.callers.len(), workload.total());
-    writeln!(out, "set {set} reclaimer none callers {callers} calls {total}")?;
+    writeln!(out, "set {set} reclaimer {reclaimer} callers {callers} calls {total}")?;
     for (number, (caller, replies)) in workload.callers.iter().zip(&left.replies).enumerate() {
         writeln!(out, "caller {number}")?;
         for (call, reply) in caller.calls.iter().zip(replies) {
@@ -25,9 +35,10 @@ pub fn print_report(out: &mut impl Write, set: &str, workload: &Workload, left: 
         }
     }
     writeln!(out, "size {} sum {}", left.size, left.sum)?;
-    let [drawn, retired, spare] = left.records;
+    let Records { drawn, reused, retired, limbo, free, spare } = left.records;
+    let freed = retired - limbo;
     writeln!(
         out,
-        "records drawn {drawn} reused 0 retired {retired} freed 0 limbo {retired} free 0 spare {spare} spent 0"
+        "records drawn {drawn} reused {reused} retired {retired} freed {freed} limbo {limbo} free {free} spare {spare} spent 0"
     )
 }

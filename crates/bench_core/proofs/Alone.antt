@@ -17,6 +17,8 @@ use Rattle.workload_text.specs.Limits.{Plan, joined, plan_of}
 use Rattle.command_words.specs.declared.command.PlayWords.{PlayWords}
 use Rattle.command_words.specs.declared.command.TrialWords.{TrialWords}
 use Rattle.paired_replies.specs.Pairs.{calls_of, replies_to}
+use Rattle.record_pieces.specs.Manners.{Manner}
+use Rattle.record_rule.specs.Facts.{CoverFacts}
 use Rattle.record_table.specs.declared.closing.Closed.{Closed}
 use Rattle.report_text.specs.declared.report.Played.{Played}
 use Rattle.report_text.specs.declared.report.Report.{Report}
@@ -125,9 +127,9 @@ none_full (played ∷ callers) no_full zero one there = none_is_full one.replies
 none_full (played ∷ callers) no_full (suc caller) one there = none_full callers (right_false (any_full played.replies) (has_full callers) no_full) caller one there
 
 -- a trial on a hash table
-hash_alone : (sizes : GenPlan) → sizes.shared ≡ false → (plan : Plan) → plan ≡ plan_of (generated sizes) → (report : Report) (closed : Closed) (chosen : PlayWords)
-    → IsHashRun chosen plan.lists report closed → calls_of report.callers ≡ joined plan.lists → has_full report.callers ≡ false → AreAlone report.callers
-hash_alone sizes unshared plan is report closed chosen run calls no_full = λ caller one there.
+hash_alone : (sizes : GenPlan) → sizes.shared ≡ false → (plan : Plan) → plan ≡ plan_of (generated sizes) → (report : Report) (closed : Closed) (cover : CoverFacts) (m : Manner) (chosen : PlayWords)
+    → IsHashRun cover m chosen plan.lists report closed → calls_of report.callers ≡ joined plan.lists → has_full report.callers ≡ false → AreAlone report.callers
+hash_alone sizes unshared plan is report closed cover m chosen run calls no_full = λ caller one there.
     let own : slice_get (replies_to report.callers) caller ≡ Some one.replies = slice_get-map (λ (p : Played). p.replies) report.callers caller ∙ ap (option_map (λ (p : Played). p.replies)) there in
     let called : slice_get (joined plan.lists) caller ≡ Some one.calls =
     ap (λ all. slice_get all caller) (sym calls) ∙ slice_get-map (λ (p : Played). p.calls) report.callers caller ∙ ap (option_map (λ (p : Played). p.calls)) there in
@@ -141,4 +143,4 @@ trial_alone chosen unshared plan made run r =
     let own : made.0.shared ≡ false = made.1.shared ∙ unshared in
     by_pair (AreAlone run.report.callers) chosen.set chosen.reclaimer (played_as chosen) plan run r.played
     (λ plain none told. plain_alone made.0 own plan made.2 run.report told)
-    (λ hash closed there told. hash_alone made.0 own plan made.2 run.report closed (played_as chosen) told r.calls no_full)
+    (λ hash c m closed there told. hash_alone made.0 own plan made.2 run.report closed c m (played_as chosen) told r.calls no_full)

@@ -46,7 +46,7 @@ use Rattle.bench_core.specs.Sizes.{sizes_of}
 use Rattle.bench_core.specs.Ending.{AreNoCommand, Counts, Ends, Finds, FindsIn, FindsMade, GaveNoWorkload, GaveWorkload, HasParts, HasText, IsAllowed, IsMade, IsPlayed, NamesUnlawful, Reads, Tells, has_full, status_with, output_of, run_of, status_of, status_of_run}
 use Rattle.bench_core.specs.Plays.{AreAlone}
 use Rattle.bench_core.specs.Settings.{played_as}
-use Rattle.bench_core.specs.Tables.{HasEnough, HasOneHistory, IsHashRun, all_insertions}
+use Rattle.bench_core.specs.Tables.{HasEnough, HasOneHistory, all_insertions}
 use Rattle.bench_core.proofs.Alone.{trial_alone}
 use Rattle.bench_core.proofs.Enough.{plain_enough}
 use Rattle.bench_core.proofs.NeverFull.{run-not_full}
@@ -323,11 +323,11 @@ module _ {S K : Type 0} {left : S → Option (List ℕ)} {source_faults : S → 
       let there = run_found e.found r (sym e.concludes.run ∙ is) e.finds in
       (done_or_fault 0 (subst IsDone (sym there.0) (status_of_run-is r)), output_of e.found, there.1, λ good. wrote e.found refl good, λ bad. (tells.part bad).1)
 
-  -- a run that has a table was on a hash table
-  table_run : (r : Run) (closed : Closed) → ended.run ≡ Some r → r.closed ≡ Some closed → (chosen : PlayWords) × (lists : List (List (List Call))) × (calls_of r.report.callers ≡ joined lists) × IsHashRun chosen lists r.report closed
+  -- what a run that has a table tells of it
+  table_run : (r : Run) (closed : Closed) → ended.run ≡ Some r → r.closed ≡ Some closed → TellsKeys closed r.report × RepliesAddUp r.report × TellsCounts closed r.report.counts
   table_run r closed is there = elim (run r is).2 [
-    | inl play ↦ (play.chosen, play.plan.lists, play.played.calls, on_table play.chosen.set play.chosen.reclaimer play.chosen play.plan r play.played.played closed there)
-    | inr trial ↦ let words = played_as trial.chosen in (words, trial.plan.lists, trial.played.calls, on_table words.set words.reclaimer words trial.plan r trial.played.played closed there)
+    | inl play ↦ on_table play.chosen.set play.chosen.reclaimer play.chosen play.plan r play.played.played closed there
+    | inr trial ↦ let words = played_as trial.chosen in on_table words.set words.reclaimer words trial.plan r trial.played.played closed there
   ]
 
   pub one_history : (r : Run) (closed : Closed) → ended.run ≡ Some r → r.closed ≡ Some closed
@@ -339,18 +339,20 @@ module _ {S K : Type 0} {left : S → Option (List ℕ)} {source_faults : S → 
   ]
 
   pub keys : (r : Run) (closed : Closed) → ended.run ≡ Some r → r.closed ≡ Some closed → TellsKeys closed r.report
-  keys r closed is there = (table_run r closed is there).3.keys
+  keys r closed is there = (table_run r closed is there).0
 
   pub adds_up : (r : Run) (closed : Closed) → ended.run ≡ Some r → r.closed ≡ Some closed → RepliesAddUp r.report
-  adds_up r closed is there = (table_run r closed is there).3.adds_up
+  adds_up r closed is there = (table_run r closed is there).1
 
   pub counts : (r : Run) (closed : Closed) → ended.run ≡ Some r → r.closed ≡ Some closed → TellsCounts closed r.report.counts
-  counts r closed is there = (table_run r closed is there).3.counts
+  counts r closed is there = (table_run r closed is there).2
 
   pub unreclaimed : (r : Run) → ended.run ≡ Some r → r.report.reclaimer ≡ Nothing → IsUnreclaimed r.report.counts
   unreclaimed r is nothing = elim (run r is).2 [
-    | inl play ↦ frees_none play.chosen.set play.chosen.reclaimer play.chosen play.plan r play.played.played
-    | inr trial ↦ let words = played_as trial.chosen in frees_none words.set words.reclaimer words trial.plan r trial.played.played
+    | inl play ↦ frees_none play.chosen.set play.chosen play.plan r
+        (subst (λ (n : ReclaimerName). IsPlayed play.chosen.set n play.chosen play.plan r) (sym play.played.reclaimer_is ∙ nothing) play.played.played)
+    | inr trial ↦ let words = played_as trial.chosen in frees_none words.set words trial.plan r
+        (subst (λ (n : ReclaimerName). IsPlayed words.set n words trial.plan r) (sym trial.played.reclaimer_is ∙ nothing) trial.played.played)
   ]
 
   pub closes : (r : Run) → ended.run ≡ Some r → (r.report.set ≡ Plain → r.closed ≡ None) × (r.closed ≡ None → r.report.set ≡ Plain)

@@ -74,4 +74,4 @@ none_told (played ∷ callers) none = rw (own_told played.replies (recursion_fro
 pub run-not_full : (set : SetName) (reclaimer : ReclaimerName) (chosen : PlayWords) (plan : Plan) (run : Run) → IsPlayed set reclaimer chosen plan run → HasEnough chosen (all_insertions plan.lists) → has_full run.report.callers ≡ false
 run-not_full set reclaimer chosen plan run played enough = by_pair (has_full run.report.callers ≡ false) set reclaimer chosen plan run played
     (λ own none told. plain-not_full plan run.report told)
-    (λ hash closed there told. none_told run.report.callers (recursion_from_All NoneIsFull (replies_to run.report.callers) (told.enough enough)))
+    (λ hash c m closed there told. none_told run.report.callers (recursion_from_All NoneIsFull (replies_to run.report.callers) (told.enough enough)))

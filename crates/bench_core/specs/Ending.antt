@@ -6,10 +6,18 @@ use Rattle.command_words.specs.declared.command.Command.TheVariants as command
 use Rattle.command_words.specs.declared.command.PlayWords.{PlayWords}
 use Rattle.command_words.specs.declared.command.TrialWords.{TrialWords}
 use Rattle.command_words.specs.declared.command.Workloads.{Workloads}
+use Rattle.cover_facts.specs.Keeping.{none}
+use Rattle.debra_facts.specs.Debra.{debra}
+use Rattle.hazard_facts.specs.Pointers.{hazard}
+use Rattle.hash_runs.specs.DebraRuns.{debra_manner}
+use Rattle.hash_runs.specs.HazardRuns.{hazard_manner}
+use Rattle.hash_runs.specs.NoneRuns.{none_manner}
 use Rattle.lawful_pairs.specs.Table.{is_lawful}
 use Rattle.lawful_pairs.specs.declared.Unlawful.{Unlawful}
 use Rattle.outside.specs.Faults.{one_more}
 use Rattle.paired_replies.specs.Pairs.{calls_of}
+use Rattle.record_pieces.specs.Manners.{Manner}
+use Rattle.record_rule.specs.Facts.{CoverFacts}
 use Rattle.record_table.specs.declared.closing.Closed.{Closed}
 use Rattle.report_text.specs.LineTexts.{checked_text, refusal_text}
 use Rattle.report_text.specs.ReportText.{report_text}
@@ -21,7 +29,7 @@ use Rattle.report_text.specs.declared.report.Played.{Played}
 use Rattle.set_model.specs.declared.calls.Reply.{Reply}
 use Rattle.set_model.specs.declared.calls.Reply.TheVariants.{Yes, No, Full}
 use Rattle.set_model.specs.declared.names.ReclaimerName.{ReclaimerName}
-use Rattle.set_model.specs.declared.names.ReclaimerName.TheVariants.{Nothing}
+use Rattle.set_model.specs.declared.names.ReclaimerName.TheVariants.{Nothing, Debra, Hazard}
 use Rattle.set_model.specs.declared.names.SetName.{SetName}
 use Rattle.set_model.specs.declared.names.SetName.TheVariants.{Plain, Michael}
 use Rattle.workload_gen.specs.Generated.{generated}
@@ -79,10 +87,16 @@ pub record GaveWorkload {S : Type 0} (left : S → Option (List ℕ)) (before af
   pub few : length bytes ≤ 67108864
   pub text : IsTextOf bytes plan
 
+-- The workload was played on a hash table, under the reclaimer with these facts and this manner, and the table was closed
+abbrev pub IsHashPlay : CoverFacts → Manner → PlayWords → Plan → Run → Type 0
+IsHashPlay c m chosen plan run = (closed : Closed) × (run.closed ≡ Some closed) × IsHashRun c m chosen plan.lists run.report closed
+
 -- What was played, by the set and the reclaimer. A pair that joins adds its case.
 abbrev pub IsPlayed : SetName → ReclaimerName → PlayWords → Plan → Run → Type 0
 IsPlayed Plain Nothing chosen plan run = (run.closed ≡ None) × IsPlainRun plan run.report
-IsPlayed Michael Nothing chosen plan run = (closed : Closed) × (run.closed ≡ Some closed) × IsHashRun chosen plan.lists run.report closed
+IsPlayed Michael Nothing chosen plan run = IsHashPlay none none_manner chosen plan run
+IsPlayed Michael Debra chosen plan run = IsHashPlay debra debra_manner chosen plan run
+IsPlayed Michael Hazard chosen plan run = IsHashPlay hazard hazard_manner chosen plan run
 IsPlayed set reclaimer chosen plan run = ⊥
 
 -- A run of the workload on the set and under the reclaimer that the words choose, with its report

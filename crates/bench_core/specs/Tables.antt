@@ -7,15 +7,15 @@ use Rattle.set_model.specs.Machine.{insertions_in}
 use Rattle.command_words.specs.declared.command.PlayWords.{PlayWords}
 use Rattle.michael_hash.specs.Pieces.{MakesPiece}
 use Rattle.paired_replies.specs.Pairs.{replies_to}
+use Rattle.record_pieces.specs.Manners.{Manner}
+use Rattle.record_rule.specs.Facts.{CoverFacts}
 use Rattle.record_table.specs.Closing.{closed_books}
 use Rattle.record_table.specs.declared.closing.Closed.{Closed}
 use Rattle.report_text.specs.declared.report.Played.{Played}
 use Rattle.report_text.specs.declared.report.Report.{Report}
-use Rattle.cover_facts.specs.Keeping.{none}
-use Rattle.hash_runs.specs.HashRuns.{IsNoneRun, hops_for, none_manner, none_setup}
+use Rattle.hash_runs.specs.HashRuns.{IsRunUnder, hash_setup, hops_for}
 use Rattle.list_facts.specs.Michael.{michael}
 use Rattle.run_facts.specs.Fullness.{AreCaused}
-use Rattle.run_facts.specs.Unreclaimed.{IsUnreclaimed}
 use Rattle.run_facts.specs.Unshared.{NoneIsFull}
 use Rattle.workload_text.specs.Limits.{joined}
 use Rattle.table_reports.specs.History.{IsOneHistory}
@@ -53,21 +53,20 @@ records_for chosen insertions = records_chosen chosen.records (needed_for chosen
 abbrev pub HasEnough : PlayWords → ℕ → Type 0
 HasEnough chosen insertions = IfSome chosen.records (λ records. needed_for chosen insertions ≤ records)
 
--- The callers played these lists on a hash table without reclamation, which they closed. The counts are those of that
--- run, the replies are those of the closed table's one history, and so are the number of keys and their sum, which are
--- also what the replies add up to.
-pub record IsHashRun (chosen : PlayWords) (lists : List (List (List Call))) (report : Report) (closed : Closed) : Type 0 where
-  pub played : IsNoneRun (records_for chosen (all_insertions lists)) chosen.buckets lists (replies_to report.callers) report.counts closed
+-- The callers played these lists on a hash table, under the reclaimer with these facts and this manner, and closed it. The
+-- counts are those of that run, the replies are those of the closed table's one history, and so are the number of keys and
+-- their sum, which are also what the replies add up to.
+pub record IsHashRun (c : CoverFacts) (m : Manner) (chosen : PlayWords) (lists : List (List (List Call))) (report : Report) (closed : Closed) : Type 0 where
+  pub played : IsRunUnder c m (records_for chosen (all_insertions lists)) chosen.buckets lists (replies_to report.callers) report.counts closed
   pub history : IsOneHistory michael lists report.callers closed
   pub keys : TellsKeys closed report
   pub adds_up : RepliesAddUp report
   pub counts : TellsCounts closed report.counts
   -- a reply `full` has its cause
-  pub caused : AreCaused (MakesPiece none_manner (none_setup (records_for chosen (all_insertions lists)) chosen.buckets (length lists))) (hops_for (records_for chosen (all_insertions lists)))
-      (none_setup (records_for chosen (all_insertions lists)) chosen.buckets (length lists)) none.first lists (replies_to report.callers) played.bounds (closed_books closed)
+  pub caused : AreCaused (MakesPiece m (hash_setup c (records_for chosen (all_insertions lists)) chosen.buckets (length lists))) (hops_for (records_for chosen (all_insertions lists)))
+      (hash_setup c (records_for chosen (all_insertions lists)) chosen.buckets (length lists)) c.first lists (replies_to report.callers) played.bounds (closed_books closed)
   -- and where the records are enough, none is there
   pub enough : HasEnough chosen (all_insertions lists) → All NoneIsFull (replies_to report.callers)
-  pub unreclaimed : IsUnreclaimed report.counts
 
 -- The printed replies are those of the one history of the table that was closed, by the facts of its set. A set that joins
 -- adds a case; a plain one has no table

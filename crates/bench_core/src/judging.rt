@@ -17,6 +17,9 @@ use command_words::{Command, PlayWords, TrialWords, Workloads, read_command};
 use lawful_pairs::lawful;
 use listed::Listed;
 use outside::{Gate, Source};
+use reclaim_debra::Debra;
+use reclaim_hazard::Hazard;
+use reclaim_none::NoReclaim;
 use report_text::{Checked, WorkloadRefusal};
 use set_model::{AllocatorName, OutOfMemory, ReclaimerName, SetName};
 use std::alloc::Global;
@@ -112,7 +115,13 @@ fn play<R: Threads + Wait + Sync, G: Gate + Sync>(
             })
         }
         (SetName::Michael, ReclaimerName::Nothing) => {
-            play_hash(alloc, rt, gate, chosen, workload)
+            play_hash::<NoReclaim, (), R, G>(alloc, rt, gate, chosen, workload)
+        }
+        (SetName::Michael, ReclaimerName::Debra) => {
+            play_hash::<Debra, _, R, G>(alloc, rt, gate, chosen, workload)
+        }
+        (SetName::Michael, ReclaimerName::Hazard) => {
+            play_hash::<Hazard, _, R, G>(alloc, rt, gate, chosen, workload)
         }
         _ => unreachable!(),
     }

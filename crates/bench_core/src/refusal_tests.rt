@@ -17,7 +17,7 @@ fn words_in(alloc: Global, line: &'static str) -> Result<Vec<&'static str>, Allo
 }
 
 /// Words that are refused, for what is wrong with them.
-const WORDS: [&str; 63] = [
+const WORDS: [&str; 62] = [
     // No mode, or another spelling of one.
     "",
     "Play --set plain --reclaimer none",
@@ -82,8 +82,7 @@ const WORDS: [&str; 63] = [
     "play --set michael --reclaimer none --records 63",
     "play --set michael --reclaimer none --records 007",
     // What isn't built yet.
-    "play --set michael --reclaimer hazard",
-    "play --set michael --reclaimer debra --records 64",
+    "play --set michael --reclaimer 2geibr --records 64",
     "play --set lazy --reclaimer none",
     "trial --set lazy --reclaimer debra --callers 2 --calls 0 --keys 1 --seed 7",
     "play --set plain --reclaimer none --allocator once",

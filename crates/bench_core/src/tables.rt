@@ -1,8 +1,10 @@
 // Playing a workload on a table of records.
 ghost use Rattle.std.specs.Prelude.{◌≡◌, IfOk};
-ghost use Rattle.set_model.specs.declared.names.ReclaimerName.TheVariants.{Nothing};
 ghost use Rattle.set_model.specs.declared.names.SetName.TheVariants.{Michael};
-ghost use Rattle.bench_core.specs.Ending.{IsRun};
+ghost use Rattle.hash_runs.specs.HashRuns.{manner_of};
+ghost use Rattle.paired_replies.specs.Pairs.{calls_of};
+ghost use Rattle.workload_text.specs.Limits.{joined};
+ghost use Rattle.bench_core.specs.Ending.{IsHashPlay};
 ghost use Rattle.bench_core.specs.Settings.{ArePlayable, AreSettings};
 ghost use Rattle.bench_core.specs.Tables.{all_insertions, needed, records_for, roots_in};
 
@@ -11,11 +13,11 @@ use crate::playing::insertions_of;
 use crate::settings::Settings;
 use closed_lists::show_lists;
 use command_words::PlayWords;
-use hash_runs::play_hash_none;
+use hash_runs::show_sparing;
 use michael_list::MichaelShape;
 use outside::Gate;
-use reclaim_none::NoReclaim;
-use set_model::{OutOfMemory, ReclaimerName, SetName};
+use reclaim_api::Scheme;
+use set_model::{OutOfMemory, SetName};
 use std::alloc::Global;
 use std::sync::Wait;
 use std::thread::Threads;
@@ -70,27 +72,42 @@ fn records_for(chosen: PlayWords, workload: &Workload) -> u32
     }
 }
 
-/// Plays a workload on a hash table without reclamation, which starts empty. All memory is taken before the first call
-/// is made.
-pub fn play_hash<R: Threads + Wait + Sync, G: Gate + Sync>(
+/// Plays a workload on a hash table that starts empty, and whose records are reclaimed by `R`. All memory is taken
+/// before the first call is made.
+pub fn play_hash<
+    R: Scheme<Local = L> + Send,
+    L: Drop + Send,
+    T: Threads + Wait + Sync,
+    G: Gate + Sync,
+>(
     alloc: Global,
-    rt: &R,
+    rt: &T,
     gate: &G,
     chosen: PlayWords,
     workload: Workload,
 ) -> Result<Run, OutOfMemory>
     requires set { chosen.set ≡ Michael }
-    requires reclaimer { chosen.reclaimer ≡ Nothing }
     requires playable { ArePlayable chosen }
-    ensures { IfOk result (IsRun chosen workload) }
+    ensures set { IfOk result (λ run. run.report.set ≡ Michael) }
+    ensures reclaimer { IfOk result (λ run. run.report.reclaimer ≡ R.NAME) }
+    ensures calls { IfOk result (λ run. calls_of run.report.callers ≡ joined workload.lists) }
+    ensures played { IfOk result (IsHashPlay R.facts (manner_of R.enters R.leaves R.bears R.reaches R.puts_away) chosen workload) }
 {
     let records = records_for(chosen, &workload);
     let callers = Vec::with_capacity(alloc, workload.callers() as usize)?;
-    let played = play_hash_none(alloc, rt, gate, &workload, records, chosen.buckets)?;
-    show_lists::<MichaelShape, NoReclaim>(&played.closed);
+    let played = hash_runs::play_hash::<R, L, T, G>(
+        alloc,
+        rt,
+        gate,
+        &workload,
+        records,
+        chosen.buckets,
+    )?;
+    show_lists::<MichaelShape, R>(&played.closed);
+    show_sparing::<R>();
     let TableRun { report, closed } = report_table(
         SetName::Michael,
-        ReclaimerName::Nothing,
+        R::NAME,
         workload,
         played,
         callers,

@@ -116,7 +116,9 @@ fn is_known_pair(set: SetName, reclaimer: ReclaimerName) -> bool
     ensures { IsTrue result ↔ IsKnownPair set reclaimer }
 {
     match (set, reclaimer) {
-        (SetName::Plain | SetName::Michael, ReclaimerName::Nothing) => true,
+        (SetName::Plain | SetName::Michael, ReclaimerName::Nothing)
+        | (SetName::Michael, ReclaimerName::Hazard)
+        | (SetName::Michael, ReclaimerName::Debra) => true,
         _ => lawful(set, reclaimer).is_err(),
     }
 }

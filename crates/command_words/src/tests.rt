@@ -137,6 +137,14 @@ fn other_modes(rt: HostRuntime) -> Result<(), Fail> {
     };
     let line = "trial --set plain --reclaimer none --callers 4 --calls 250000 --keys 1000 --seed 7";
     assert_eq!(rt; command_of(alloc, line)?, Some(Command::Trial(trial)));
+    let reclaimed = TrialWords {
+        set: SetName::Michael,
+        reclaimer: ReclaimerName::Debra,
+        ..trial
+    };
+    let line =
+        "trial --set michael --reclaimer debra --callers 4 --calls 250000 --keys 1000 --seed 7";
+    assert_eq!(rt; command_of(alloc, line)?, Some(Command::Trial(reclaimed)));
     Ok(())
 }
 
@@ -149,7 +157,7 @@ const REFUSED: [&str; 9] = [
     "check --set plain",
     "play --set plain --reclaimer none --records 1048576",
     "play --set michael --reclaimer none --records 63",
-    "trial --set michael --reclaimer debra --callers 2 --calls 0 --keys 1 --seed 7",
+    "trial --set michael --reclaimer 2geibr --callers 2 --calls 0 --keys 1 --seed 7",
     "play --set plain --reclaimer none --allocator once",
 ];
 

@@ -85,6 +85,7 @@ none_laws = record {
   looks = λ setup x d step updates g safe h at begins. h;
   silent = refl;
   loads = λ setup x d updates n g word safe h at is. h;
+  shown = λ setup x d n g word safe h at is. tt;
   loaded = λ setup x d updates n g word safe h at is. record { holds = λ p t e. inl e; many = refl; words = refl; start = record { taken_out = refl; updates = refl; step = refl }; waits = λ p r e. (e, refl) };
   free_of = λ setup x i d generation b n stamp r g safe h at cell free. let none : ⊥ = cc in absurd none;
   frees = λ setup x d g cells safe h at freed k t e. kept_there x.cells cells d freed t k (h k t e);

@@ -38,6 +38,7 @@ none = record {
   stamps = λ g n stamp. stamp ≡ 0;
   may_reach = λ g q. q.place < PLACES;
   reached = λ m g q t. holding (started_if q.first m g q.step) q.place t;
+  shows = λ setup g word n. Unit {0};
   loaded = λ setup m d g word n. g;
   may_free = λ setup g n. false;
   cleared = λ setup g. g;

@@ -1,15 +1,18 @@
 -- DEBRA keeps the laws of a reclaimer.
-use Rattle.std.proofs.Common.{◌-◌, refl, subst, arith, ⊎_elim, inr}
+use Rattle.std.proofs.Common.{ℕ, ◌-◌, refl, subst, arith, ⊎_elim, inr}
+use Rattle.record_memory.specs.declared.steps.Word.{Word}
+use Rattle.record_memory.specs.declared.steps.Word.TheVariants.{Epoch}
 use Rattle.record_memory.specs.declared.books.Setup.{Setup}
-use Rattle.record_rule.specs.Inputs.{unseen, rooted, reachable, unpublished, limbo}
-use Rattle.record_rule.specs.Laws.{opening_scheme, moment, CoverLaws}
+use Rattle.record_memory.specs.declared.books.Guard.{Guard}
+use Rattle.record_rule.specs.Inputs.{unseen, rooted, reachable, unpublished, limbo, SchemeInput}
+use Rattle.record_rule.specs.Laws.{opening_scheme, moment, ValueIs, CoverLaws}
 use Rattle.record_rule.specs.Least.{holds_nothing}
 use Rattle.record_rule.proofs.Lists.{at_replicate, at_runs}
 use Rattle.cover_facts.proofs.There.{linked_stays, handed_stays}
-use Rattle.guard_facts.specs.Announcing.{GuardsFit}
+use Rattle.guard_facts.specs.Announcing.{shows_epoch, GuardsFit}
 use Rattle.debra_facts.specs.Rounds.{PLACES}
 use Rattle.debra_facts.specs.Debra.{DebraFits, debra}
-use Rattle.debra_facts.proofs.Fits.{false_true, stays_so}
+use Rattle.debra_facts.proofs.Fits.{false_true, first_reading, stays_so}
 use Rattle.debra_facts.proofs.Looks.{loads_word, loaded_word}
 use Rattle.debra_facts.proofs.Stores.{stores_so, stored_so, exchanges_so}
 use Rattle.debra_facts.proofs.Lives.{moves_so, takes_so, puts_so, reaches_so, reached_so}
@@ -25,6 +28,7 @@ starts_so setup d g at = subst (DebraFits setup (opening_scheme setup debra.firs
   rise = omega arith;
   rose = inr refl;
   read = omega arith;
+  limit = omega arith;
   quiet = λ off. (refl, holds_nothing PLACES);
   active = λ on. false_true on;
   bags = λ i e b n stamp r there. ⊎_elim (λ p. let none : ⊥ = (let z = p.1 in cc) in absurd none) (λ p. let none : ⊥ = (let z = p.1 in cc) in absurd none) (at_runs setup.roots (setup.records - setup.roots) i rooted unseen (limbo d e b n stamp r) there);
@@ -33,6 +37,11 @@ starts_so setup d g at = subst (DebraFits setup (opening_scheme setup debra.firs
   late = λ on. false_true on;
   stands = λ on. false_true on;
 }
+
+-- a load of the epoch finds it no smaller than the caller's last reading
+shown_so : (setup : Setup) (x : SchemeInput) (d n : ℕ) (g : Guard) (word : Word) → DebraFits setup x d g → ValueIs x word n → shows_epoch setup g word n
+shown_so setup x d n g Epoch f is = (let one = first_reading setup x d g f in let le = f.read in omega arith, let le = f.limit in omega arith)
+shown_so setup x d n g w f is = tt
 
 pub debra_laws : CoverLaws debra
 debra_laws = record {
@@ -52,6 +61,7 @@ debra_laws = record {
   looks = λ setup x d step updates g safe h at begins. false_true begins;
   loads = loads_word;
   loaded = λ setup x d updates n g word safe h at is. loaded_word setup x (moment x updates) d n g word;
+  shown = λ setup x d n g word safe h at is. shown_so setup x d n g word (h d g at) is;
   free_of = λ setup x i d generation b n stamp r g safe h at cell free. nobody_holds setup x h d g at safe i generation b n stamp r cell free;
   frees = λ setup x d g cells safe h at freed. stays_so setup (record x { cells = cells }) d g (frees_so setup x h d g at cells freed) at;
   cleared = λ setup g. record { holds = refl; waits = refl; words = refl; start = record { taken_out = refl; updates = refl; step = refl } };

@@ -52,6 +52,7 @@ module _ (setup : Setup) (x : SchemeInput) where
     rise = f.rise;
     rose = f.rose;
     read = f.read;
+    limit = f.limit;
     quiet = f.quiet;
     active = f.active;
     bags = λ i e b n stamp r at. f.bags i e b n stamp r (was i d e b n stamp r at);
@@ -72,6 +73,7 @@ module _ (setup : Setup) (x : SchemeInput) where
       rise = f.rise;
       rose = f.rose;
       read = f.read;
+      limit = f.limit;
       quiet = f.quiet;
       active = f.active;
       bags = f.bags;

@@ -47,6 +47,7 @@ module _ (setup : Setup) (x : SchemeInput) (h : GuardsFit DebraFits setup x) whe
     rise = f.rise;
     rose = f.rose;
     read = f.read;
+    limit = f.limit;
     quiet = f.quiet;
     active = f.active;
     bags = λ j a c m st r y. ⊎_elim
@@ -72,6 +73,7 @@ module _ (setup : Setup) (x : SchemeInput) (h : GuardsFit DebraFits setup x) whe
     rise = f.rise;
     rose = f.rose;
     read = f.read;
+    limit = f.limit;
     quiet = λ off. false_true (sym off ∙ on);
     active = f.active;
     bags = f.bags;

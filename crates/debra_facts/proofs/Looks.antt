@@ -45,6 +45,7 @@ passes setup x d k n g many h at is spot passed = let new : Guard = one_passed g
       rise = f.rise;
       rose = f.rose;
       read = f.read;
+      limit = f.limit;
       quiet = f.quiet;
       active = f.active;
       bags = f.bags;

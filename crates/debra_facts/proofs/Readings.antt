@@ -21,6 +21,7 @@ reads_as setup x d n g h at is true e = guards_over setup x d g g at (active_as 
   rise = f.rise;
   rose = f.rose;
   read = f.read;
+  limit = f.limit;
   quiet = f.quiet;
   active = f.active;
   bags = f.bags;
@@ -39,6 +40,7 @@ reads_as setup x d n g h at is false e = let new : Guard = reads_anew g n in gua
       rise = up;
       rose = inl f.rise;
       read = omega arith;
+      limit = f.limit;
       quiet = f.quiet;
       active = f.active;
       -- what was retired by now has an epoch of at most this one, and each bag is the next older one

@@ -32,6 +32,7 @@ fits_as setup x d v step updates g safe h at may true e = let new : Guard = stor
       rise = f.rise;
       rose = f.rose;
       read = f.read;
+      limit = f.limit;
       quiet = λ off. let none : ⊥ = cc in absurd none;
       active = λ on. (reading g 0, get_or-set_same g.announced 0 v 0 (omega arith) ∙ odd v (reading g 0) may (eqb-true (v % 2) 1 e), (let z = f.read in omega arith), omega arith, omega arith);
       bags = f.bags;
@@ -49,6 +50,7 @@ fits_as setup x d v step updates g safe h at may false e = let new : Guard = sto
       rise = f.rise;
       rose = f.rose;
       read = f.read;
+      limit = f.limit;
       quiet = λ off. (ap (λ (z : ℕ). z % 2) (get_or-set_same g.announced 0 v 0 (omega arith)) ∙ even v (eqb-false (v % 2) 1 e), empty_holds g.holds);
       active = λ on. false_true on;
       bags = f.bags;
@@ -78,6 +80,7 @@ exchanges_so setup x d old new g safe h at may is e k there = let f = h e k ther
   rise = f.rise;
   rose = f.rose;
   read = let r = f.read in omega arith;
+  limit = let below = may.2 in omega arith;
   quiet = f.quiet;
   active = λ on. let q = f.active on in let s : mine.v ≤ k.epoch = mine.scanned e k (let l = below_at x.guards e k there in let m = safe.callers in omega arith) there on in let l = q.3 in (q.0, q.1, q.2, omega arith, omega arith);
   bags = λ i c b n stamp r y. let q = f.bags i c b n stamp r y in ((let z = q.0 in omega arith), q.1, q.2, q.3);

@@ -8,7 +8,7 @@ use Rattle.record_rule.specs.Inputs.{SchemeInput, limbo}
 use Rattle.record_rule.specs.Facts.{At, CoverFacts}
 use Rattle.record_rule.specs.Guards.{holding}
 use Rattle.record_rule.specs.Laws.{IsThere}
-use Rattle.guard_facts.specs.Announcing.{word_of, reading, HoldsNothing, GuardsFit, first_guard}
+use Rattle.guard_facts.specs.Announcing.{LAST_EPOCH, shows_epoch, word_of, reading, HoldsNothing, GuardsFit, first_guard}
 use Rattle.debra_facts.specs.Rounds.{PLACES, debra_loaded, debra_free, DebraMayStore, starts_by, debra_stored, DebraMayExchange}
 
 pub record DebraFits (setup : Setup) (x : SchemeInput) (d : ℕ) (g : Guard) : Type 0 where
@@ -20,6 +20,7 @@ pub record DebraFits (setup : Setup) (x : SchemeInput) (d : ℕ) (g : Guard) : T
   pub rise : w < v
   pub rose : (u < w) ⊎ (u ≡ 0)
   pub read : v ≤ x.epoch
+  pub limit : x.epoch ≤ LAST_EPOCH
   -- who isn't active announces so, and holds nothing
   pub quiet : g.active ≡ false → (word_of g 0 % 2 ≡ 0) × HoldsNothing g
   -- the announced epoch may be older than the one at the announcing store; the epoch is at most one above that
@@ -46,6 +47,7 @@ debra = record {
   stamps = λ g n stamp. stamp ≡ reading g 0;
   may_reach = λ g q. (g.active ≡ true) × (q.place < PLACES);
   reached = λ m g q t. holding g q.place t;
+  shows = shows_epoch;
   loaded = debra_loaded;
   may_free = debra_free;
   cleared = λ setup g. g;

@@ -1,5 +1,7 @@
 -- How a reclaimer by announcements reads a guard and changes it.
-use Rattle.std.specs.Prelude.{ℕ, List, map, true, false, Some, None, slice_index_or, slice_set}
+use Rattle.std.specs.Prelude.{ℕ, ◌≤◌, List, map, true, false, Some, None, slice_index_or, slice_set}
+use Rattle.record_memory.specs.declared.steps.Word.{Word}
+use Rattle.record_memory.specs.declared.steps.Word.TheVariants.{Epoch}
 use Rattle.record_memory.specs.declared.books.Setup.{Setup}
 use Rattle.record_memory.specs.declared.books.Guard.{Guard}
 use Rattle.row_words.specs.Refs.{RefParts}
@@ -18,6 +20,11 @@ word_of g k = slice_index_or g.announced k 0
 -- an epoch that its caller read, the last one at 0
 abbrev pub reading : Guard → ℕ → ℕ
 reading g k = slice_index_or g.readings k 0
+
+-- a load of the epoch finds no less than the last reading, and no more than the last epoch
+abbrev pub shows_epoch : Setup → Guard → Word → ℕ → Type 0
+shows_epoch setup g Epoch n = (reading g 0 ≤ n) × (n ≤ LAST_EPOCH)
+shows_epoch setup g word n = Unit {0}
 
 abbrev pub HoldsNothing : Guard → Type 0
 HoldsNothing g = (p : ℕ) (t : RefParts) → ¬ At g.holds p (Some t)

@@ -1,1 +1,4 @@
 pub mod HashRuns
+pub mod NoneRuns
+pub mod DebraRuns
+pub mod HazardRuns

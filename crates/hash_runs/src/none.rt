@@ -1,28 +1,22 @@
 // Runs under no reclamation.
 ghost use Rattle.std.specs.Prelude.{◌<◌, ◌≤◌, IfOk};
 ghost use Rattle.listed.specs.Vectors.{items_of};
-ghost use Rattle.hash_runs.specs.HashRuns.{IsNoneRun};
+ghost use Rattle.hash_runs.specs.NoneRuns.{IsNoneRun};
 
-use alloc_bump::Bump;
-use michael_hash::MichaelHash;
+use crate::hash::play_hash;
 use outside::Gate;
-use pool::NoPool;
 use reclaim_none::NoReclaim;
-use record_table::PrepareError;
-use row_words::Generation;
 use set_model::OutOfMemory;
-use set_runs::{Played, play_set};
+use set_runs::Played;
 use std::alloc::Global;
 use std::sync::Wait;
 use std::thread::Threads;
 use workload_text::Workload;
 
-/// Plays the workload on an empty hash table of `records` records, at most 1,048,575, of which the first `buckets`, at
-/// least 1, are the buckets. Records aren't reclaimed, and are drawn from one shared count. The one refusal is want of
-/// memory, before the first call is made.
-pub fn play_hash_none<R: Threads + Wait + Sync, G: Gate + Sync>(
+/// Plays the workload as `play_hash` does, and no record is reclaimed.
+pub fn play_hash_none<T: Threads + Wait + Sync, G: Gate + Sync>(
     alloc: Global,
-    rt: &R,
+    rt: &T,
     gate: &G,
     workload: &Workload,
     records: u32,
@@ -33,20 +27,5 @@ pub fn play_hash_none<R: Threads + Wait + Sync, G: Gate + Sync>(
     requires room { buckets ≤ records }
     ensures { IfOk result (λ played. IsNoneRun records buckets workload.now.lists (items_of played.replies.items) played.counts played.closed) }
 {
-    let Some(first) = Generation::new(1) else {
-        unreachable!()
-    };
-    let made = MichaelHash::<NoReclaim, Bump, NoPool>::prepare(
-        alloc,
-        records,
-        workload.callers(),
-        first,
-        buckets,
-    );
-    let (hash, callers) = match made {
-        Ok(made) => made,
-        Err(PrepareError::OutOfMemory) => return Err(OutOfMemory),
-        Err(PrepareError::Records | PrepareError::Callers) => unreachable!(),
-    };
-    play_set(alloc, rt, gate, hash, callers, workload, 2 * records + 64)
+    play_hash::<NoReclaim, (), T, G>(alloc, rt, gate, workload, records, buckets)
 }

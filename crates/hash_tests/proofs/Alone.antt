@@ -1,5 +1,5 @@
 -- The only caller of a table, from the list of all.
-use Rattle.std.proofs.Common.{◌≡◌, List, [], ◌∷◌, ◌++◌, length, All, subst, arith}
+use Rattle.std.proofs.Common.{◌≡◌, List, [], ◌∷◌, ◌++◌, length, All, Bool, subst, arith}
 use Rattle.std.proofs.lemmas.List.Elements.{All-head}
 use Rattle.record_memory.specs.declared.books.View.{View}
 use Rattle.record_table.specs.declared.table.Table.{Table}
@@ -11,7 +11,7 @@ use Rattle.michael_hash.specs.Callers.{IsWholeCallerOf}
 use Rattle.michael_hash.proofs.Seats.{whole_callers, in_order}
 use Rattle.hash_tests.specs.Only.{IsOnlyCallerOf}
 
-module _ {S R L : Type 0} (is_local : L → View → Type 0) (t : Table S R) where
+module _ {S R L : Type 0} (is_local : L → Bool → View → View → Type 0) (t : Table S R) where
   -- all callers are one
   pub alone : (cs ds : List (Caller S R L)) (c : Caller S R L) → cs ≡ ds ++ c ∷ [] → length ds ≡ 0 → AreAllPasses t (passes_of cs) → All (IsResting is_local) cs → IsOnlyCallerOf is_local t c
   alone cs [] c e none all resting =

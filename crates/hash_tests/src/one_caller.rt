@@ -29,8 +29,8 @@ const GREATEST: u64 = 1_099_511_627_773;
 // The caller of a table that has no more.
 fn only(hash: &TestHash, mut callers: Vec<TestCaller>) -> Option<TestCaller>
     requires passes { AreAllPasses hash.now.lists.manager.table (passes_of callers.items) }
-    requires resting { All (IsResting (λ l v. Unit {0})) callers.items }
-    ensures only { IfSome result (λ caller. IsOnlyCallerOf (λ l v. Unit {0}) hash.now.lists.manager.table caller) }
+    requires resting { All (IsResting (λ l inside s v. Unit {0})) callers.items }
+    ensures only { IfSome result (λ caller. IsOnlyCallerOf (λ l inside s v. Unit {0}) hash.now.lists.manager.table caller) }
 {
     let caller = callers.pop()?;
     if callers.is_empty() {
@@ -42,16 +42,16 @@ fn only(hash: &TestHash, mut callers: Vec<TestCaller>) -> Option<TestCaller>
 
 // Makes the call.
 fn play(hash: &TestHash, caller: &mut TestCaller, call: Call, budget: u32) -> Answer
-    requires only { IsOnlyCallerOf (λ l v. Unit {0}) hash.now.lists.manager.table caller.old }
+    requires only { IsOnlyCallerOf (λ l inside s v. Unit {0}) hash.now.lists.manager.table caller.old }
     requires key { key_of call ≤ 1099511627773 }
-    ensures only { IsOnlyCallerOf (λ l v. Unit {0}) hash.now.lists.manager.table caller.new }
+    ensures only { IsOnlyCallerOf (λ l inside s v. Unit {0}) hash.now.lists.manager.table caller.new }
 {
     hash.play(caller, call, budget)
 }
 
 // Ends the table, and gives the number and the sum of its keys.
 fn sums(alloc: Global, hash: TestHash, caller: TestCaller) -> Result<(u64, u64), Fail>
-    requires only { IsOnlyCallerOf (λ l v. Unit {0}) hash.lists.manager.table caller }
+    requires only { IsOnlyCallerOf (λ l inside s v. Unit {0}) hash.lists.manager.table caller }
 {
     let callers = Vec::from_array(alloc, [caller])?;
     let closed = ConcurrentSet::close(hash, callers);

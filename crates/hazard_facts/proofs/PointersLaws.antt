@@ -70,6 +70,7 @@ hazard_laws = record {
   reached = λ m g q t may. has_reached m g q t may;
   looks = λ setup x d step updates g safe h at begins. looks_so setup x d step updates g h at;
   loads = λ setup x d updates n g word safe h at is. loads_so setup x d updates n g word h at is;
+  shown = λ setup x d n g word safe h at is. tt;
   loaded = λ setup x d updates n g word safe h at is. has_loaded setup x (moment x updates) d n g word;
   free_of = nobody_holds;
   frees = λ setup x d g cells safe h at freed. ends_so setup (record x { cells = cells }) d g (cells_over setup x cells x.taken_out (limbo_freed (hazard_free setup g) d x.cells cells freed) h) at;

@@ -60,6 +60,7 @@ hazard = record {
   stamps = λ g n stamp. (stamp ≡ 0) × (g.loaded ≡ []);
   may_reach = λ g q. q.place < 3;
   reached = λ m g q t. holding (started_if q.first m g q.step) q.place (named_by g q.place t);
+  shows = λ setup g word n. Unit {0};
   loaded = hazard_loaded;
   may_free = hazard_free;
   cleared = hazard_cleared;

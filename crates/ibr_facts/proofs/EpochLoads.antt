@@ -25,6 +25,7 @@ reads_on setup x d n g h at is = changes setup x d g (read_by g n (length x.take
   lower = f.lower;
   upper = let y = f.upper in let z = f.top in omega arith;
   top = omega arith;
+  limit = f.limit;
   read = omega arith;
   outside = f.outside;
   holds = f.holds;
@@ -50,6 +51,7 @@ confirms setup x d n g w h at is same e = let new : Guard = read_by (holding g w
       lower = f.lower;
       upper = omega arith;
       top = omega arith;
+      limit = f.limit;
       read = omega arith;
       outside = λ off. none_waits g.pending w.0 w.1 (f.outside off).1 e;
       holds = λ t y. ⊎_elim (f.holds t) (λ wait. ⊎_elim (λ lt. let l = lt in absurd (omega arith)) (λ m. m) (f.waits wait.0 t wait.1).1) (was_had g w t e y);

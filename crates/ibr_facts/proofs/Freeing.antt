@@ -27,7 +27,7 @@ born_seen (limbo c e b n s r) epoch f = f (λ z. cc)
 
 pub frees_so : (setup : Setup) (x : SchemeInput) (d : ℕ) (g : Guard) (cells : List SchemeCell) → IsSafe setup x → IbrCovered setup x → At x.guards d g → FreedCells (ibr_free setup g) d x.cells cells → IbrCovered setup (record x { cells = cells })
 frees_so setup x d g cells safe h at freed = (
-  over setup x cells x.taken_out x.epoch (omega arith) (omega arith)
+  over setup x cells x.taken_out x.epoch (omega arith) (λ l. l) (omega arith)
       (λ e k t there has m. let new = at_below cells (t.index - 1) (let l = below_at x.cells (t.index - 1) m.0 m.2 in let z = freed.many in omega arith) in let old = freed.each (t.index - 1) new.0 new.1 in
       met e k t there has m new.0 new.1 (became (ibr_free setup g) d (t.index - 1) m.0 new.0 (subst (λ (z : SchemeCell). IsFreed (ibr_free setup g) d (t.index - 1) z new.0) (one_at x.cells (t.index - 1) old.0 m.0 old.1 m.2) old.2)))
       (λ i c generation b n cell. inl (freed_before (ibr_free setup g) d x.cells cells freed i (unretired c generation b n) cell (λ z. cc)))

@@ -21,6 +21,7 @@ module _ (setup : Setup) (x : SchemeInput) (d : ℕ) (g new : Guard) (at : At x.
     lower = f.lower;
     upper = f.upper;
     top = f.top;
+    limit = f.limit;
     read = f.read;
     outside = f.outside;
     holds = f.holds;
@@ -45,6 +46,7 @@ fits_unscanned setup x e k f = record {
   lower = f.lower;
   upper = f.upper;
   top = f.top;
+  limit = f.limit;
   read = f.read;
   outside = f.outside;
   holds = f.holds;

@@ -8,7 +8,7 @@ use Rattle.record_rule.specs.Inputs.{SchemeInput}
 use Rattle.record_rule.specs.Facts.{At, Moment}
 use Rattle.record_rule.specs.Laws.{moment, with_guard, ValueIs, HasLoaded, CoverLaws}
 use Rattle.record_rule.specs.Least.{holds_nothing}
-use Rattle.guard_facts.specs.Announcing.{GuardsFit}
+use Rattle.guard_facts.specs.Announcing.{shows_epoch, GuardsFit}
 use Rattle.guard_facts.proofs.Replaced.{holds_on}
 use Rattle.ibr_facts.specs.Intervals.{IbrFits}
 use Rattle.ibr_facts.specs.Keeping.{PLACES, is_scanned, ibr_loaded, ibr}
@@ -33,6 +33,11 @@ has_loaded setup x m d n g Epoch f is = has_read setup x d n m.taken_out g f is 
 has_loaded setup x m d n g (Announced k) f is = has_scanned x g k n
 has_loaded setup x m d n g w f is = holds_on x g g refl refl refl record { taken_out = refl; updates = refl; step = refl }
 
+-- a load of the epoch finds it no smaller than the caller's last reading
+shown_so : (setup : Setup) (x : SchemeInput) (d n : ℕ) (g : Guard) (word : Word) → IbrFits setup x d g → ValueIs x word n → shows_epoch setup g word n
+shown_so setup x d n g Epoch f is = (let le = f.top in omega arith, let le = f.limit in omega arith)
+shown_so setup x d n g w f is = tt
+
 pub ibr_laws : CoverLaws ibr
 ibr_laws = record {
   enough = omega arith;
@@ -51,10 +56,11 @@ ibr_laws = record {
   looks = λ setup x d step updates g safe h at begins. let none : ⊥ = cc in absurd none;
   loads = λ setup x d updates n g word safe h at is. (loads_word setup x d updates n g word h.0 at is, h.1);
   loaded = λ setup x d updates n g word safe h at is. has_loaded setup x (moment x updates) d n g word (h.0 d g at) is;
+  shown = λ setup x d n g word safe h at is. shown_so setup x d n g word (h.0 d g at) is;
   free_of = nobody_holds;
   frees = λ setup x d g cells safe h at freed. let y = frees_so setup x d g cells safe h at freed in (clears_so setup (record x { cells = cells }) d g y.0 at (is_scanned setup g), y.1);
   cleared = λ setup g. cleared_so g (is_scanned setup g);
   stores = λ setup x d k v step updates g safe h at low may. (stores_so setup x d k v step updates g safe h.0 at may, h.1);
   stored = stored_so;
-  exchanges = λ setup x d old new g safe h at may is. exchanges_so setup x old new h may.2 is;
+  exchanges = λ setup x d old new g safe h at may is. exchanges_so setup x old new h may.1 may.2 is;
 }

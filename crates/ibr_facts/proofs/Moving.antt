@@ -9,22 +9,23 @@ use Rattle.record_rule.specs.Facts.{At}
 use Rattle.record_rule.specs.Laws.{IsThereAs, IsSafe, with_cell, opening_scheme}
 use Rattle.record_rule.specs.Least.{holds_nothing}
 use Rattle.record_rule.proofs.Lists.{each_set, at_replicate, at_runs}
-use Rattle.guard_facts.specs.Announcing.{word_of, reading, GuardsFit, first_guard}
+use Rattle.guard_facts.specs.Announcing.{LAST_EPOCH, word_of, reading, GuardsFit, first_guard}
 use Rattle.guard_facts.proofs.Cells.{limbo_before}
 use Rattle.ibr_facts.specs.Intervals.{MeetsAs, MeetsGuard, Has, IsBornBy, IbrFits}
 use Rattle.ibr_facts.specs.Keeping.{PLACES, IbrCovered}
 use Rattle.ibr_facts.proofs.Meeting.{none_waits, born_later, meets_set}
 
 -- each guard fits afterwards, where it still meets what it has, or can't come to hold it
-pub over : (setup : Setup) (x : SchemeInput) (cells : List SchemeCell) (taken_out : List RefParts) (epoch : ℕ) → x.epoch ≤ epoch → length x.taken_out ≤ length taken_out
+pub over : (setup : Setup) (x : SchemeInput) (cells : List SchemeCell) (taken_out : List RefParts) (epoch : ℕ) → x.epoch ≤ epoch → (x.epoch ≤ LAST_EPOCH → epoch ≤ LAST_EPOCH) → length x.taken_out ≤ length taken_out
     → ((d : ℕ) (g : Guard) (t : RefParts) → At x.guards d g → Has g t → MeetsGuard x g t → (MeetsGuard (record x { cells = cells; taken_out = taken_out; epoch = epoch }) g t) ⊎ (word_of g 1 < epoch × ((p : ℕ) → ¬ At g.holds p (Some t))))
     → ((i c generation b n : ℕ) → At cells i (unretired c generation b n) → At x.cells i (unretired c generation b n) ⊎ (length x.taken_out ≤ n))
     → ((i c generation b n stamp r : ℕ) → At cells i (limbo c generation b n stamp r) → At x.cells i (limbo c generation b n stamp r))
     → GuardsFit IbrFits setup x → GuardsFit IbrFits setup (record x { cells = cells; taken_out = taken_out; epoch = epoch })
-over setup x cells taken_out epoch later more meets was_unretired was_limbo h d g at = let f = h d g at in record {
+over setup x cells taken_out epoch later last more meets was_unretired was_limbo h d g at = let f = h d g at in record {
   lower = let z = f.lower in omega arith;
   upper = f.upper;
   top = let z = f.top in omega arith;
+  limit = last f.limit;
   read = let z = f.read in omega arith;
   outside = f.outside;
   holds = λ t e. ⊎_elim (λ y. y) (λ y. absurd (y.1 e.0 e.1)) (meets d g t at (inl e) (f.holds t e));
@@ -38,7 +39,7 @@ moves : (setup : Setup) (x : SchemeInput) (i : ℕ) (old new : SchemeCell) (take
     → ((generation start l u : ℕ) → start ≤ length x.taken_out → IsThereAs old generation start → MeetsAs old l u → IsThereAs new generation start × MeetsAs new l u) → ((c generation b n : ℕ) → new ≡ unretired c generation b n → length x.taken_out ≤ n)
     → ((c generation b n stamp r : ℕ) → new ≢ limbo c generation b n stamp r) → IsBornBy new x.epoch → IbrCovered setup (record x { cells = set x.cells i new; taken_out = taken_out })
 moves setup x i old new taken_out safe h at more on late never born = (
-  over setup x (set x.cells i new) taken_out x.epoch (omega arith) more (λ d g t there has m. inl (meets_set x i old new g t at (λ a z same. on t.generation g.start_taken_out (word_of g 0) (word_of g 1) (safe.starts d g there) a z) m))
+  over setup x (set x.cells i new) taken_out x.epoch (omega arith) (λ l. l) more (λ d g t there has m. inl (meets_set x i old new g t at (λ a z same. on t.generation g.start_taken_out (word_of g 0) (word_of g 1) (safe.starts d g there) a z) m))
       (λ j c generation b n cell. ⊎_elim (λ p. inr (late c generation b n p.1)) (λ p. inl p.1) (at_set x.cells i j new (unretired c generation b n) cell)) (limbo_before x.cells i new never) h.0,
   each_set (λ j c. IsBornBy c x.epoch) x.cells i new h.1 born,
 )
@@ -57,9 +58,9 @@ pub takes_so : (setup : Setup) (x : SchemeInput) (i d generation b : ℕ) → Is
 takes_so setup x i d generation b safe h at = let k : ℕ = length x.taken_out in moves setup x i (reachable generation b) (unretired d generation b k) (x.taken_out ++ refer (i + 1) generation ∷ []) safe h at
     (let l = length-append x.taken_out (refer (i + 1) generation ∷ []) in omega arith) (λ e start l u le there m. ((there, le), m)) (λ c e a n z. let y : k ≡ n = cc in omega arith) (λ c e a n s r z. cc) (h.1 i (reachable generation b) at)
 
-pub exchanges_so : (setup : Setup) (x : SchemeInput) (old new : ℕ) → IbrCovered setup x → new ≡ old + 1 → x.epoch ≡ old → IbrCovered setup (record x { epoch = new })
-exchanges_so setup x old new h up is = (
-  over setup x x.cells x.taken_out new (omega arith) (omega arith) (λ d g t there has m. inl m) (λ i c generation b n e. inl e) (λ i c generation b n stamp r e. e) h.0,
+pub exchanges_so : (setup : Setup) (x : SchemeInput) (old new : ℕ) → IbrCovered setup x → old < LAST_EPOCH → new ≡ old + 1 → x.epoch ≡ old → IbrCovered setup (record x { epoch = new })
+exchanges_so setup x old new h last up is = (
+  over setup x x.cells x.taken_out new (omega arith) (λ l. omega arith) (omega arith) (λ d g t there has m. inl m) (λ i c generation b n e. inl e) (λ i c generation b n stamp r e. e) h.0,
   λ i cell at. born_later cell x.epoch new (omega arith) (h.1 i cell at),
 )
 
@@ -71,6 +72,7 @@ starts_so setup positive = let g : Guard = first_guard PLACES (1 ∷ []) in
         lower = omega arith;
         upper = omega arith;
         top = omega arith;
+        limit = omega arith;
         read = omega arith;
         outside = λ e. (holds_nothing PLACES, refl);
         holds = λ t e. absurd (holds_nothing PLACES e.0 t e.1);

@@ -42,6 +42,7 @@ reaches_so setup x d p g t h at on found = let new : Guard = ibr_reached g p t i
         lower = f.lower;
         upper = f.upper;
         top = f.top;
+        limit = f.limit;
         read = f.read;
         outside = λ e. absurd (on e);
         holds = λ r e. f.holds r (e.0, (hold_less g p e.0 r e.1).1);

@@ -30,6 +30,7 @@ puts_so setup x i d generation b n stamp g h at mine is late idle = let new : Sc
         lower = f.lower;
         upper = f.upper;
         top = f.top;
+        limit = f.limit;
         read = f.read;
         outside = f.outside;
         holds = λ t e. meets t (inl e) (f.holds t e);

@@ -37,6 +37,7 @@ scans_end setup x d k n g h at is spot = changes setup x d g new at h (stamped_o
   lower = f.lower;
   upper = f.upper;
   top = f.top;
+  limit = f.limit;
   read = f.read;
   outside = f.outside;
   holds = f.holds;

@@ -21,6 +21,7 @@ raises setup x d v g safe h at is = let new : Guard = raised g v in let four = s
       lower = let z = f.lower in omega arith;
       upper = omega arith;
       top = f.top;
+      limit = f.limit;
       read = f.read;
       outside = λ e. ((f.outside (sym low ∙ e)).0, refl);
       holds = λ t e. let m = f.holds t e in (m.0, m.1, m.2, m.3, subst (λ (z : ℕ). MeetsAs m.0 z (word_of new 1)) (sym low) (meets_more m.0 (word_of g 0) (word_of g 1) (word_of new 1) (let z = f.upper in omega arith) m.4));
@@ -49,6 +50,7 @@ empties setup x d v active taken updates step epoch g safe h at le = let new : G
       lower = omega arith;
       upper = let z = f.upper in omega arith;
       top = f.top;
+      limit = f.limit;
       read = f.read;
       outside = λ e. (empty_holds g.holds, refl);
       holds = λ t e. absurd (empty_holds g.holds e.0 t e.1);

@@ -6,7 +6,7 @@ use Rattle.row_words.specs.Refs.{RefParts, refer}
 use Rattle.record_rule.specs.Inputs.{SchemeCell, unseen, rooted, reachable, unpublished, unretired, limbo, SchemeInput}
 use Rattle.record_rule.specs.Facts.{At}
 use Rattle.record_rule.specs.Laws.{IsThereAs}
-use Rattle.guard_facts.specs.Announcing.{word_of, reading, HoldsNothing}
+use Rattle.guard_facts.specs.Announcing.{LAST_EPOCH, word_of, reading, HoldsNothing}
 
 -- Word 0 of a guard is the lower end of its interval, 0 where it has none, and word 1 the upper end
 
@@ -56,6 +56,7 @@ pub record IbrFits (setup : Setup) (x : SchemeInput) (d : ℕ) (g : Guard) : Typ
   pub lower : word_of g 0 ≤ x.epoch
   pub upper : word_of g 1 ≤ reading g 0
   pub top : reading g 0 ≤ x.epoch
+  pub limit : x.epoch ≤ LAST_EPOCH
   -- the reading isn't of the future
   pub read : g.reading_taken_out ≤ length x.taken_out
   -- without an interval nothing is held and nothing waits

@@ -9,7 +9,7 @@ use Rattle.set_model.specs.declared.names.ReclaimerName.TheVariants.{Ibr}
 use Rattle.record_rule.specs.Inputs.{SchemeCell, SchemeInput}
 use Rattle.record_rule.specs.Facts.{At, Moment, LimboRecord, CoverFacts}
 use Rattle.record_rule.specs.Guards.{holding}
-use Rattle.guard_facts.specs.Announcing.{LAST_EPOCH, word_of, reading, GuardsFit, first_guard, announcing, entered, left}
+use Rattle.guard_facts.specs.Announcing.{LAST_EPOCH, shows_epoch, word_of, reading, GuardsFit, first_guard, announcing, entered, left}
 use Rattle.ibr_facts.specs.Intervals.{IsBornBy, IbrFits}
 
 -- how many places a guard has
@@ -89,6 +89,7 @@ ibr = record {
   stamps = λ g n stamp. (stamp ≡ reading g 0) × (n < g.reading_taken_out) × (g.loaded ≡ []);
   may_reach = λ g q. (word_of g 0 ≢ 0) × (q.place < PLACES);
   reached = λ m g q t. ibr_reached g q.place t;
+  shows = shows_epoch;
   loaded = ibr_loaded;
   may_free = ibr_free;
   cleared = ibr_cleared;

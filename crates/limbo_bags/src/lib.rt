@@ -5,9 +5,15 @@
 //! records it stands, and each call says what it does to that list.
 #![tactic(auto)]
 
+mod cutting;
 mod ends;
+mod moving;
+mod sifting;
 
+pub use cutting::{CUT, cut};
 pub use ends::{pop, push};
+pub use moving::move_all;
+pub use sifting::{Keeps, sift};
 
 #[cfg(test)]
 mod tests;

@@ -20,9 +20,9 @@ const MOST_KEY: u64 = 1_099_511_627_773;
 // Whether the call was answered yes.
 fn play_one(list: &TestList, caller: &mut TestCaller, call: Call) -> bool
     requires of { IsPassOf list.now.manager.table caller.old.pass }
-    requires caller { IsResting (λ l v. Unit {0}) caller.old }
+    requires caller { IsResting (λ l inside s v. Unit {0}) caller.old }
     ensures of { IsPassOf list.now.manager.table caller.new.pass }
-    ensures caller { IsResting (λ l v. Unit {0}) caller.new }
+    ensures caller { IsResting (λ l inside s v. Unit {0}) caller.new }
 {
     match call {
         Call::Insert(key) if key <= MOST_KEY => {
@@ -41,7 +41,7 @@ fn play_one(list: &TestList, caller: &mut TestCaller, call: Call) -> bool
 // How many of the calls were.
 fn play(list: &TestList, mut caller: TestCaller, calls: &[Call]) -> u64
     requires of { IsPassOf list.now.manager.table caller.pass }
-    requires caller { IsResting (λ l v. Unit {0}) caller }
+    requires caller { IsResting (λ l inside s v. Unit {0}) caller }
 {
     let mut yes: u64 = 0;
     for call in calls {

@@ -8,5 +8,5 @@ use Rattle.manager.specs.Callers.{IsResting}
 -- neither is inside an operation
 pub record AreBoth {S R L : Type 0} (t : Table S R) (zero one : Caller S R L) : Type 0 where
   pub all : AreAllPasses t (zero.pass ∷ one.pass ∷ [])
-  pub zero_rests : IsResting (λ l v. Unit {0}) zero
-  pub one_rests : IsResting (λ l v. Unit {0}) one
+  pub zero_rests : IsResting (λ l inside s v. Unit {0}) zero
+  pub one_rests : IsResting (λ l inside s v. Unit {0}) one

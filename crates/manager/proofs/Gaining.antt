@@ -42,7 +42,7 @@ module _ (v w : View) (chain : Chain) (full : IsFull w chain) (gains : Gains v w
   both k d b = (gains.had k d b, full.list.list.owned k d b)
 
   -- what sees no free record sees the same
-  gained_like : {A : Type 0} (see : Option Share → A) → ((h : Share) → h.standing ≡ Free → see (Some h) ≡ see None) → (j : ℕ) → see (get_or w.own.mine j None) ≡ see (get_or v.own.mine j None)
+  pub gained_like : {A : Type 0} (see : Option Share → A) → ((h : Share) → h.standing ≡ Free → see (Some h) ≡ see None) → (j : ℕ) → see (get_or w.own.mine j None) ≡ see (get_or v.own.mine j None)
   gained_like see blind j = by (is_in (λ r. (share_in v r.index ≡ None) × IsAs Free w r) (j + 1) (refs_in w chain) both)
     where
       place : j + 1 - 1 ≡ j

@@ -20,3 +20,8 @@ pub mod Stocks
 pub mod Sums
 pub mod CallerSums
 pub mod MeetingAll
+pub mod Along
+pub mod FreeSteps
+pub mod CutChains
+pub mod Losing
+pub mod FreeGivings

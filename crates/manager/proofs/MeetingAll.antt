@@ -1,5 +1,5 @@
 -- All callers meet in the first one, and learn from it.
-use Rattle.std.proofs.Common.{◌≡◌, ℕ, zero, suc, ◌+◌, ◌<◌, List, [], ◌∷◌, ◌++◌, All, map, length, length-set, get_or, set, take, drop, sym, refl, ap, ◌∙◌, subst, ⊎_elim, arith}
+use Rattle.std.proofs.Common.{◌≡◌, ℕ, zero, suc, ◌+◌, ◌<◌, List, [], ◌∷◌, ◌++◌, All, map, length, length-set, get_or, set, take, drop, Bool, sym, refl, ap, ◌∙◌, subst, ⊎_elim, arith}
 use Rattle.std.proofs.lemmas.List.{append-nil, take_all, drop_all}
 use native.Mathlib.Decide.{dec_le}
 use mathlib.Core.Logic.{dite}
@@ -47,7 +47,7 @@ module _ {S R L : Type 0} where
   abbrev pub HaveLearntTo : Caller S R L → ℕ → List (Caller S R L) → Type 0
   HaveLearntTo from n others = (i : ℕ) (b : Caller S R L) → i < n → At others i b → KnowsOf b from
 
-  module _ (is_local : L → View → Type 0) (t : Table S R) where
+  module _ (is_local : L → Bool → View → View → Type 0) (t : Table S R) where
     -- a caller at rest that hasn't met
     pub met_none : (a : Caller S R L) → IsAtRest is_local t a → HasMet is_local t a a
     met_none a r = record { rest = r; same = same_start a.pass; longer = ([], sym (append-nil (front_of a))); unchanged = refl }

@@ -1,5 +1,5 @@
 -- A caller after a step on a word of a root, of a record that it holds or of an own one.
-use Rattle.std.proofs.Common.{◌≡◌, ℕ, ◌-◌, ◌<◌, ◌≤◌, List, [], ◌∷◌, ◌++◌, length, length-append, get_or, set, Option, Some, None, Result, Ok, Err, sym, refl, ap, ◌∙◌, subst, arith}
+use Rattle.std.proofs.Common.{◌≡◌, ℕ, ◌-◌, ◌<◌, ◌≤◌, List, [], ◌∷◌, ◌++◌, length, length-append, get_or, set, Bool, Option, Some, None, Result, Ok, Err, sym, refl, ap, ◌∙◌, subst, arith}
 use Rattle.std.specs.Prelude.{MatchResult}
 use Rattle.set_model.specs.declared.calls.Call.{Call}
 use Rattle.record_memory.specs.declared.steps.Step.{Step}
@@ -21,7 +21,7 @@ use Rattle.record_table.specs.declared.passes.Pass.{Pass}
 use Rattle.record_table.specs.Handles.{view, IsSamePass}
 use Rattle.record_table.specs.Nodes.{IsRefused}
 use Rattle.reclaim_api.specs.Guarding.{IsInside}
-use Rattle.reclaim_api.specs.Frames.{GoesOn, SamePart, in_away}
+use Rattle.reclaim_api.specs.Frames.{GoesOn, in_away}
 use Rattle.reclaim_api.proofs.Kept.{Stays, chain_stays, goes_on}
 use Rattle.record_pieces.specs.Events.{KeepsStock}
 use Rattle.manager.specs.Callers.{HasChains}
@@ -29,7 +29,7 @@ use Rattle.manager.proofs.OneShare.{AwayStays}
 use Rattle.manager.proofs.MoveCounts.{AreSameMoves, same_moves, counted_still}
 use Rattle.manager.specs.declared.types.Moved.{Moved}
 use Rattle.manager.specs.Counted.{AreCounted}
-use Rattle.manager.proofs.Stay.{mine_stays}
+use Rattle.manager.proofs.Stay.{LocalStays, mine_stays, local_still}
 use Rattle.manager.proofs.Stocks.{spares_kept}
 use Rattle.manager.proofs.Entries.{IsAloof, entry_stays, entry_limbo, entry_idle}
 
@@ -48,7 +48,7 @@ grows : (b c : List Step) (t : Step) → c ≡ b ++ t ∷ [] → length b ≤ le
 grows b c t e = let l = length-append b (t ∷ []) in let f = ap (λ (x : List Step). length x) e in omega arith
 
 -- so its caller is inside as before, its chains are the same lists, and as many records are spare
-module _ {S R L : Type 0} {c : CoverFacts} (is_local : L → View → Type 0) (p q : Pass S R) (same : IsSamePass p q) (l : L) (free spare : Chain) (stays : (l : L) (v w : View) → SamePart c v w → is_local l v → is_local l w) (leaves : LeavesAll c (view p) (view q)) where
+module _ {S R L : Type 0} {c : CoverFacts} (is_local : L → Bool → View → View → Type 0) (p q : Pass S R) (same : IsSamePass p q) (l : L) (free spare : Chain) (stays : LocalStays c is_local) (leaves : LeavesAll c (view p) (view q)) where
   pub inside_still : IsInside p → IsInside q
   inside_still h = record {
     inside = ap (λ x. x.value) same.inside ∙ h.inside;
@@ -57,7 +57,7 @@ module _ {S R L : Type 0} {c : CoverFacts} (is_local : L → View → Type 0) (p
 
   pub chains_still : HasChains is_local p l free spare → HasChains is_local q l free spare
   chains_still h = let records = ap (λ (k : Setup). k.records) same.setup in record {
-    local = stays l (view p) (view q) (record { setup = same.setup; caller = same.caller; guard = leaves.guard; away = leaves.away }) h.local;
+    local = local_still is_local p q l same stays record { setup = same.setup; caller = same.caller; guard = leaves.guard; away = leaves.away; retired = leaves.moves.retired } h.local;
     frees = chain_stays Free (view p) (view q) records leaves.frees free h.frees;
     spares = chain_stays Spare (view p) (view q) records leaves.spares spare h.spares;
     all = leaves.idle_is ∙ h.all;

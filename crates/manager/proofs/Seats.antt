@@ -1,5 +1,5 @@
 -- The callers of passes that made no step, in order.
-use Rattle.std.proofs.Common.{◌≡◌, ℕ, zero, suc, ◌+◌, ◌<◌, length, List, [], ◌∷◌, ◌++◌, map, All, cond, Bool, false, replicate, None, Option, sym, refl, ap, ◌∙◌, arith}
+use Rattle.std.proofs.Common.{◌≡◌, ℕ, zero, suc, ◌+◌, ◌<◌, ◌≤◌, length, List, [], ◌∷◌, ◌++◌, map, All, cond, Bool, false, get_or, replicate, None, Option, sym, refl, ap, ◌∙◌, arith}
 use Rattle.std.specs.List.{count_by}
 use Rattle.std.proofs.lemmas.List.{reverse-append, append_assoc}
 use Rattle.std.proofs.lemmas.List.Sums.{sum_by-cons}
@@ -20,7 +20,8 @@ use Rattle.record_table.proofs.Closings.{tail_fresh}
 use Rattle.manager.specs.declared.types.Caller.{Caller}
 use Rattle.record_memory.specs.declared.books.Standing.{Standing}
 use Rattle.record_rule.specs.Standings.{is_limbo, is_spent}
-use Rattle.reclaim_api.specs.Frames.{is_as, had}
+use Rattle.reclaim_api.specs.Frames.{is_as, had, in_away}
+use Rattle.reclaim_api.specs.Locals.{HasNoneAway}
 use Rattle.manager.specs.Counted.{shown, AreCounted}
 use Rattle.manager.specs.Made.{passes_of}
 
@@ -42,7 +43,16 @@ none_had test (suc n) = let e = sum_by-cons (λ (x : Option Share). cond (is_as 
 fresh_had : (test : Standing → Bool) (setup : Setup) (first : Guard) (c : ℕ) (v : View) → IsFresh setup first c v → had test v.own ≡ 0
 fresh_had test setup first c v f = ap (λ (b : Book). had test b) f.own ∙ none_had test setup.records
 
--- so all its counts are 0
+-- so none of them is in limbo or spent
+no_entry : (n j : ℕ) → get_or {A = Option Share} (replicate n None) j None ≡ None
+no_entry zero j = refl
+no_entry (suc n) zero = refl
+no_entry (suc n) (suc j) = no_entry n j
+
+pub fresh_away : (setup : Setup) (first : Guard) (c : ℕ) (v : View) → IsFresh setup first c v → HasNoneAway v
+fresh_away setup first c v f i = ap (λ (b : Book). in_away (get_or b.mine i None)) f.own ∙ ap in_away (no_entry setup.records i)
+
+-- and all its counts are 0
 pub fresh_counted : (setup : Setup) (first : Guard) (c : ℕ) (v : View) → IsFresh setup first c v → AreCounted (record { drawn = 0; reused = 0; retired = 0; freed = 0; spent = 0 }) v.own
 fresh_counted setup first c v f = record {
   drawn = ap (λ (b : Book). shown b.moves.drawn) (sym f.own);
@@ -56,11 +66,11 @@ fresh_counted setup first c v f = record {
 module _ {S R : Type 0} (t : Table S R) (first : Guard) where
   -- it is outside, and made no step
   abbrev pub IsNew : Pass S R → Type 0
-  IsNew p = (is_inside p ≡ false) × ((c : ℕ) × IsFresh (setup_of t) first c (view p))
+  IsNew p = (is_inside p ≡ false) × ((c : ℕ) × (c < (setup_of t).callers) × IsFresh (setup_of t) first c (view p))
 
-  pub all_new : (from : ℕ) (ps : List (Pass S R)) → AreFreshFrom t first from ps → All IsNew ps
-  all_new from [] f = All-nil IsNew
-  all_new from (p ∷ ps) f = All-cons IsNew p ps ((f.each_outside 0 p refl).inside_is, (from + 0, f.each_view 0 p refl)) (all_new (from + 1) ps (tail_fresh t first from p ps f))
+  pub all_new : (from : ℕ) (ps : List (Pass S R)) → from + length ps ≤ (setup_of t).callers → AreFreshFrom t first from ps → All IsNew ps
+  all_new from [] few f = All-nil IsNew
+  all_new from (p ∷ ps) few f = All-cons IsNew p ps ((f.each_outside 0 p refl).inside_is, (from + 0, omega arith, f.each_view 0 p refl)) (all_new (from + 1) ps (omega arith) (tail_fresh t first from p ps f))
 
 module _ {S R L : Type 0} where
   -- one caller more

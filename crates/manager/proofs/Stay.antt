@@ -1,5 +1,5 @@
 -- A caller after a call of its reclaimer, or after steps of its own.
-use Rattle.std.proofs.Common.{◌≡◌, ◌+◌, ◌-◌, List, ◌++◌, length, length-append, get_or, None, ap, ◌∙◌, sym, subst, arith}
+use Rattle.std.proofs.Common.{◌≡◌, ◌+◌, ◌-◌, List, ◌++◌, length, length-append, get_or, Bool, None, ap, ◌∙◌, sym, subst, arith}
 use Rattle.record_memory.specs.declared.steps.Step.{Step}
 use Rattle.record_memory.specs.declared.books.Book.{Book}
 use Rattle.record_memory.specs.declared.books.View.{View}
@@ -13,9 +13,10 @@ use Rattle.record_rule.specs.Kinds.{idle}
 use Rattle.record_rule.specs.Makes.{Makes}
 use Rattle.record_rule.proofs.Makes.{idle_mine, makes_then}
 use Rattle.record_table.specs.declared.passes.Pass.{Pass}
-use Rattle.record_table.specs.Handles.{view, IsSamePass}
+use Rattle.record_table.specs.Handles.{view, since, is_inside, IsSamePass}
 use Rattle.reclaim_api.specs.Chained.{IsChainOf}
 use Rattle.reclaim_api.specs.Guarding.{IsInside}
+use Rattle.reclaim_api.specs.Locals.{IsLocalOf}
 use Rattle.reclaim_api.specs.Frames.{SamePart, in_away, LeavesRecords, FreesInto}
 use Rattle.reclaim_api.specs.Holds.{KeepsHeld}
 use Rattle.reclaim_api.proofs.Kept.{Stays, chain_stays, goes_on}
@@ -29,7 +30,7 @@ use Rattle.manager.proofs.OneShare.{AwayStays}
 pub mine_stays : (standing : Standing) (v w : View) → w.own.mine ≡ v.own.mine → Stays standing v w
 mine_stays standing v w e i h known is = ap (λ m. get_or m (i - 1) None) e ∙ known
 
-module _ {S R L : Type 0} (is_local : L → View → Type 0) (p q : Pass S R) (l m : L) (free spare : Chain) (setup : (view q).setup ≡ (view p).setup) (h : HasChains is_local p l free spare) (local : is_local m (view q)) where
+module _ {S R L : Type 0} (is_local : L → Bool → View → View → Type 0) (p q : Pass S R) (l m : L) (free spare : Chain) (setup : (view q).setup ≡ (view p).setup) (h : HasChains is_local p l free spare) (local : IsLocalOf is_local m q) where
   -- after a call that leaves each record
   pub chains_stay : LeavesRecords (view p) (view q) → HasChains is_local q m free spare
   chains_stay rest = let records = ap (λ (k : Setup). k.records) setup in record {
@@ -47,6 +48,15 @@ module _ {S R L : Type 0} (is_local : L → View → Type 0) (p q : Pass S R) (l
     spares = chain_stays Spare (view p) (view q) (ap (λ (k : Setup). k.records) setup) stay spare h.spares;
     all = let a = into.idle in let b = into.count in let c = h.all in omega arith;
   }
+
+-- a local part is its caller's by the part of what the pass knows that a reclaimer's is told by
+abbrev pub LocalStays : {L : Type 0} → CoverFacts → (L → Bool → View → View → Type 0) → Type 0
+LocalStays {L = L} c is_local = (l : L) (inside : Bool) (s v w : View) → SamePart c v w → is_local l inside s v → is_local l inside s w
+
+-- so it is its caller's after steps of the caller's own
+pub local_still : {S R L : Type 0} {c : CoverFacts} (is_local : L → Bool → View → View → Type 0) (p q : Pass S R) (l : L) → IsSamePass p q → LocalStays c is_local → SamePart c (view p) (view q) → IsLocalOf is_local l p → IsLocalOf is_local l q
+local_still is_local p q l same stays part h = subst (λ (b : Bool). is_local l b (since q) (view q)) (sym (ap (λ x. x.value) same.inside))
+    (subst (λ (s : View). is_local l (is_inside p) s (view q)) (sym (ap (λ x. x.value.me.0) same.since)) (stays l (is_inside p) (since p) (view p) (view q) part h))
 
 -- some steps and then more
 pub makes_both : (u v w : View) (s t : List Step) → Makes u v s → Makes v w t → (steps : List Step) × Makes u w steps
@@ -69,22 +79,22 @@ module _ {S R : Type 0} (p q : Pass S R) (same : IsSamePass p q) (steps : List S
   answers_after = record { answered = ap (λ (v : View). v.own.answered) made.rest; front = ap (λ (v : View). v.front) made.rest }
 
   -- its chains are what these steps make of them
-  pub chains_after : {L : Type 0} {c : CoverFacts} (is_local : L → View → Type 0) (l : L) (free spare free' spare' : Chain) → ((l : L) (v w : View) → SamePart c v w → is_local l v → is_local l w) → HasChains is_local p l free spare → AwayStays (view p) (view q)
+  pub chains_after : {L : Type 0} {c : CoverFacts} (is_local : L → Bool → View → View → Type 0) (l : L) (free spare free' spare' : Chain) → LocalStays c is_local → HasChains is_local p l free spare → AwayStays (view p) (view q)
       → IsChainOf Free (view q) free' → IsChainOf Spare (view q) spare' → idle (view q).own ≡ free'.count + spare'.count → HasChains is_local q l free' spare'
   chains_after {c = c} is_local l free spare free' spare' stays h limbo frees spares all = record {
-    local = stays l (view p) (view q) (record { setup = same.setup; caller = same.caller; guard = goes_on c (view p).own.guard (view q).own.guard (ap (λ (v : View). v.own.guard) made.rest); away = limbo }) h.local;
+    local = local_still is_local p q l same stays record { setup = same.setup; caller = same.caller; guard = goes_on c (view p).own.guard (view q).own.guard (ap (λ (v : View). v.own.guard) made.rest); away = limbo; retired = made.retired } h.local;
     frees = frees;
     spares = spares;
     all = all;
   }
 
 -- a caller whose own book stays rests as before
-pub rests_still : {S R L : Type 0} {c : CoverFacts} (is_local : L → View → Type 0) (p q : Pass S R) (l : L) (free spare : Chain) (n : Moved) (same : IsSamePass p q) → ((l : L) (v w : View) → SamePart c v w → is_local l v → is_local l w) → (view q).own ≡ (view p).own
+pub rests_still : {S R L : Type 0} {c : CoverFacts} (is_local : L → Bool → View → View → Type 0) (p q : Pass S R) (l : L) (free spare : Chain) (n : Moved) (same : IsSamePass p q) → LocalStays c is_local → (view q).own ≡ (view p).own
     → IsResting is_local (record { pass = p; local = l; free = free; spare = spare; moved = n }) → IsResting is_local (record { pass = q; local = l; free = free; spare = spare; moved = n })
 rests_still {c = c} is_local p q l free spare n same stays own h = record {
   outside = ap (λ x. x.value) same.inside ∙ h.outside;
   chains = record {
-    local = stays l (view p) (view q) (record { setup = same.setup; caller = same.caller; guard = goes_on c (view p).own.guard (view q).own.guard (ap (λ (b : Book). b.guard) own); away = λ i. ap (λ (b : Book). in_away (get_or b.mine i None)) own }) h.chains.local;
+    local = local_still is_local p q l same stays record { setup = same.setup; caller = same.caller; guard = goes_on c (view p).own.guard (view q).own.guard (ap (λ (b : Book). b.guard) own); away = λ i. ap (λ (b : Book). in_away (get_or b.mine i None)) own; retired = ap (λ (b : Book). b.moves.retired) own } h.chains.local;
     frees = chain_stays Free (view p) (view q) (ap (λ (k : Setup). k.records) same.setup) (mine_stays Free (view p) (view q) (ap (λ (b : Book). b.mine) own)) free h.chains.frees;
     spares = chain_stays Spare (view p) (view q) (ap (λ (k : Setup). k.records) same.setup) (mine_stays Spare (view p) (view q) (ap (λ (b : Book). b.mine) own)) spare h.chains.spares;
     all = ap (λ (b : Book). idle b) own ∙ h.chains.all;

@@ -1,5 +1,5 @@
 -- What clauses say of a caller, inside an operation and outside.
-use Rattle.std.specs.Prelude.{◌≡◌, ◌≢◌, ℕ, ◌+◌, ◌-◌, false}
+use Rattle.std.specs.Prelude.{◌≡◌, ◌≢◌, ℕ, ◌+◌, ◌-◌, Bool, false}
 use Rattle.record_memory.specs.declared.books.View.{View}
 use Rattle.record_memory.specs.declared.books.Standing.TheVariants.{Free, Spare}
 use Rattle.row_words.specs.Refs.{RefParts}
@@ -10,18 +10,19 @@ use Rattle.record_table.specs.Handles.{view, is_inside}
 use Rattle.record_rule.specs.Kinds.{idle}
 use Rattle.reclaim_api.specs.Chained.{IsChainOf}
 use Rattle.reclaim_api.specs.Guarding.{IsInside}
+use Rattle.reclaim_api.specs.Locals.{IsLocalOf}
 use Rattle.manager.specs.declared.types.Caller.{Caller}
 use Rattle.manager.specs.Counted.{AreCounted}
 
 -- its local part is its own, and its two chains are lists through word 1 of just its free and its spare records
-pub record HasChains {S R L : Type 0} (is_local : L → View → Type 0) (p : Pass S R) (l : L) (fs ss : Chain) : Type 0 where
-  pub local : is_local l (view p)
+pub record HasChains {S R L : Type 0} (is_local : L → Bool → View → View → Type 0) (p : Pass S R) (l : L) (fs ss : Chain) : Type 0 where
+  pub local : IsLocalOf is_local l p
   pub frees : IsChainOf Free (view p) fs
   pub spares : IsChainOf Spare (view p) ss
   -- no record is free or spare beside
   pub all : idle (view p).own ≡ fs.count + ss.count
 
-module _ {S R L : Type 0} (is_local : L → View → Type 0) where
+module _ {S R L : Type 0} (is_local : L → Bool → View → View → Type 0) where
   abbrev pub Chains : Caller S R L → Type 0
   Chains c = HasChains is_local c.pass c.local c.free c.spare
 

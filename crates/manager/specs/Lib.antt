@@ -3,4 +3,5 @@ pub mod Manners
 pub mod Guards
 pub mod Made
 pub mod Counted
+pub mod Giving
 pub mod Meeting

@@ -6,8 +6,9 @@ use Rattle.record_memory.specs.declared.books.Book.{Book}
 use Rattle.record_memory.specs.declared.books.View.{View}
 use Rattle.row_words.specs.Refs.{RefParts}
 use Rattle.row_words.specs.declared.links.Chain.{Chain}
-use Rattle.pool.specs.Calls.{Takes}
+use Rattle.pool.specs.Calls.{Takes, Gives}
 use Rattle.pool.specs.declared.Taken.TheVariants.{Some as Took, None as FoundNone}
+use Rattle.pool.specs.declared.Given.TheVariants.{Done, Kept}
 use Rattle.row_words.specs.declared.links.Freed.{Freed}
 use Rattle.record_table.specs.declared.nodes.Node.{Node}
 use Rattle.reclaim_api.specs.declared.holding.Holding.{Holding}
@@ -30,6 +31,10 @@ abbrev pub takes_by : ℕ → (List Step → Type 0) → Setup → Book → Bool
 takes_by shelves busy k b true c = (v : View) × (w : View) × AreOf k b c v w × ((chain : Chain) × Takes shelves busy v w (Took chain))
 takes_by shelves busy k b false c = (v : View) × (w : View) × AreOf k b c v w × Takes shelves busy v w FoundNone
 
+abbrev pub gives_by : ℕ → (List Step → Type 0) → Setup → Book → Bool → Book → Type 0
+gives_by shelves busy k b true c = (v : View) × (w : View) × AreOf k b c v w × ((chain : Chain) × Gives shelves busy v w chain Done)
+gives_by shelves busy k b false c = (v : View) × (w : View) × AreOf k b c v w × ((chain : Chain) × Gives shelves busy v w chain (Kept chain))
+
 -- the manner of the three, by the relations that they state
 abbrev pub manner : (Setup → Book → Freed → Book → Type 0) → (Setup → Book → Book → Type 0) → (Setup → Book → ℕ → Book → Type 0) → (Setup → ℕ → Node → ℕ → Book → Holding → Book → Type 0) → (Setup → Book → RefParts → Freed → Book → Type 0)
     → (View → RefParts → View → Type 0) → (View → ℕ → View → Type 0) → ℕ → (List Step → Type 0) → Manner
@@ -41,5 +46,7 @@ manner enters leaves bears reaches puts_away draws refuses shelves busy = record
   puts_away = puts_away;
   draws = draws_by draws;
   refuses = refuses_by refuses;
+  shelves = shelves;
   takes = takes_by shelves busy;
+  gives = gives_by shelves busy;
 }

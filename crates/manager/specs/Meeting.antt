@@ -1,5 +1,5 @@
 -- Callers that meet: what each knows afterwards of the updates that the others had seen.
-use Rattle.std.specs.Prelude.{◌≡◌, ℕ, List, length}
+use Rattle.std.specs.Prelude.{◌≡◌, ℕ, List, length, Bool}
 use Rattle.set_model.specs.declared.calls.Update.{Update}
 use Rattle.record_memory.specs.declared.books.View.{View}
 use Rattle.record_rule.specs.Facts.{At}
@@ -30,7 +30,7 @@ module _ {S R L : Type 0} where
   abbrev pub HaveAllMet : List (Caller S R L) → List (Caller S R L) → Type 0
   HaveAllMet before after = (i j : ℕ) (a b : Caller S R L) → At before i a → At after j b → KnowsOf b a
 
-  module _ (is_local : L → View → Type 0) (t : Table S R) where
+  module _ (is_local : L → Bool → View → View → Type 0) (t : Table S R) where
     -- it is a caller of this table, and not inside an operation
     pub record IsAtRest (c : Caller S R L) : Type 0 where
       pub of : IsPassOf t c.pass

@@ -1,5 +1,6 @@
 // A caller begins and ends operations, and tries to hold records.
 ghost use Rattle.std.specs.Prelude.{◌≡◌, ◌<◌};
+ghost use Rattle.record_memory.specs.declared.books.Book.{Book};
 ghost use Rattle.row_words.specs.declared.links.Freed.{Freed};
 ghost use Rattle.record_rule.specs.Links.{near_of};
 ghost use Rattle.record_table.specs.Handles.{setup_of, view, IsPassOf, IsSamePass};
@@ -8,15 +9,19 @@ ghost use Rattle.reclaim_api.specs.Guarding.{Enters, Leaves};
 ghost use Rattle.reclaim_api.specs.Frames.{LeavesRest, LeavesRecords};
 ghost use Rattle.reclaim_api.specs.Holds.{IsElsewhere, HasReached, KeepsElse};
 ghost use Rattle.record_pieces.specs.Events.{KeepsStock};
+ghost use Rattle.record_pieces.specs.Giving.{GivesChains};
+ghost use Rattle.manager.specs.Manners.{gives_by};
 ghost use Rattle.manager.specs.Callers.{IsWorking, IsResting};
 
 use crate::counting::raised;
+use crate::giving::give_chains;
 use crate::types::Caller;
+use pool::Pool;
 use reclaim_api::{Holding, Scheme};
 use record_table::{Node, Shape, Table};
 
-// What left limbo is free.
-pub(crate) fn enter<S: Shape, R: Scheme>(table: &Table<S, R>, caller: &mut Caller<S, R>)
+// What left limbo is free, and goes to the pool where it is much.
+pub(crate) fn enter<S: Shape, R: Scheme, P: Pool>(table: &Table<S, R>, caller: &mut Caller<S, R>)
     requires of { IsPassOf table.now caller.old.pass }
     requires caller { IsResting R.is_local caller.old }
     ensures of { IsPassOf table.now caller.new.pass }
@@ -24,11 +29,12 @@ pub(crate) fn enter<S: Shape, R: Scheme>(table: &Table<S, R>, caller: &mut Calle
     ensures pass { Enters caller.old.pass caller.new.pass }
     ensures rest { LeavesRest (view caller.old.pass) (view caller.new.pass) }
     ensures stock { KeepsStock (view caller.old.pass).own (view caller.new.pass).own }
-    ensures does { (f : Freed) × R.enters (setup_of table.now) (view caller.old.pass).own f (view caller.new.pass).own }
+    ensures does { (d : Book) × (f : Freed) × R.enters (setup_of table.now) (view caller.old.pass).own f d × GivesChains P.SHELVES (gives_by P.SHELVES P.busy (setup_of table.now)) f d (view caller.new.pass).own }
 {
     let left = R::enter(table, &mut caller.pass, &mut caller.local, &mut caller.free);
     caller.moved.freed = raised(caller.moved.freed, left.freed);
     caller.moved.spent = raised(caller.moved.spent, left.spent);
+    give_chains::<S, R, P>(table, caller, left);
 }
 
 pub(crate) fn leave<S: Shape, R: Scheme>(table: &Table<S, R>, caller: &mut Caller<S, R>)

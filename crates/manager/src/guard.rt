@@ -32,8 +32,9 @@ use row_words::Link;
 use set_model::Call;
 
 impl<S: Shape, R: Scheme, A: Allocator, P: Pool> Manager<S, R, A, P> {
-    /// Begins an operation of this caller. Records of its limbo may become free. The guard must be spent
-    /// by `finish`, so a caller is inside at most one operation.
+    /// Begins an operation of this caller. Records of its limbo may become free; then chains of 32 of its free
+    /// records go to the pool, while it has 64 and the pool takes them. The guard must be spent by `finish`, so a
+    /// caller is inside at most one operation.
     pub fn begin<'a>(&'a self, caller: &'a mut Caller<S, R>) -> Guard<'a, S, R, A, P>
         requires of { IsPassOf self.now.table caller.old.pass }
         requires caller { IsResting R.is_local caller.old }
@@ -44,7 +45,7 @@ impl<S: Shape, R: Scheme, A: Allocator, P: Pool> Manager<S, R, A, P> {
         ensures rest { LeavesRest (view caller.old.pass) (view result.caller.now.pass) }
         ensures did { Does (manner R.enters R.leaves R.bears R.reaches R.puts_away A.draws A.refuses P.SHELVES P.busy) (setup_of self.entry.now.table) begun (view caller.old.pass).own (view result.caller.now.pass).own }
     {
-        enter(&self.table, caller);
+        enter::<S, R, P>(&self.table, caller);
         Guard {
             caller,
             manager: self,
@@ -113,7 +114,7 @@ impl<'a, S: Shape, R: Scheme, A: Allocator, P: Pool> Guard<'a, S, R, A, P> {
     }
 
     /// Retires a record that this caller took out. It is in its limbo from then on, until the reclaimer
-    /// lets it go.
+    /// lets it go. Where records become free, chains of them go to the pool, as with `begin`.
     pub fn retire(&mut self, taken: TakenOut)
         requires at_work { IsAtWork self.old }
         requires taken { (h : Share) × HasTaken (view self.old.caller.now.pass) taken h }
@@ -125,7 +126,7 @@ impl<'a, S: Shape, R: Scheme, A: Allocator, P: Pool> Guard<'a, S, R, A, P> {
         ensures owns { KeepsOwn (view self.old.caller.now.pass) (view self.new.caller.now.pass) }
         ensures did { Did self.old (retired taken) self.new }
     {
-        put_away(&self.manager.table, self.caller, taken);
+        put_away::<S, R, P>(&self.manager.table, self.caller, taken);
     }
 
     /// Ends the operation. Its caller holds nothing afterwards.

@@ -9,6 +9,7 @@
 
 mod callers;
 mod counting;
+mod giving;
 mod guard;
 mod making;
 mod meeting;

@@ -17,7 +17,7 @@ use std::marker::PhantomData;
 
 // The caller of a pass that made no step.
 fn seat<S: Shape, R: Scheme>(table: &Table<S, R>, pass: Pass<S, R>) -> Caller<S, R>
-    requires fresh { (c : ℕ) × IsFresh (setup_of table.now) R.facts.first c (view pass) }
+    requires fresh { (c : ℕ) × (c < (setup_of table.now).callers) × IsFresh (setup_of table.now) R.facts.first c (view pass) }
     requires outside { is_inside pass ≡ false }
     ensures pass { result.pass ≡ pass }
     ensures caller { IsResting R.is_local result }

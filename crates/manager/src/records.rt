@@ -12,13 +12,16 @@ ghost use Rattle.record_table.specs.Handles.{setup_of, view, IsPassOf, IsSamePas
 ghost use Rattle.reclaim_api.specs.Frames.{had};
 ghost use Rattle.reclaim_api.specs.Holds.{KeepsHeld};
 ghost use Rattle.record_pieces.specs.Hands.{in_hand};
-ghost use Rattle.record_pieces.specs.Events.{own_load, own_store, HandsOut, KeepsStock, WasFree, Gets, FindsNone, Does, took, refused};
+ghost use Rattle.record_pieces.specs.OwnSteps.{own_load, own_store};
+ghost use Rattle.record_pieces.specs.Giving.{GivesChains};
+ghost use Rattle.record_pieces.specs.Events.{HandsOut, KeepsStock, WasFree, Gets, FindsNone, Does, took, refused};
 ghost use Rattle.pool.specs.Calls.{Takes};
 ghost use Rattle.pool.specs.declared.Taken.TheVariants.{Some as Took, None as FoundNone};
-ghost use Rattle.manager.specs.Manners.{manner};
+ghost use Rattle.manager.specs.Manners.{gives_by, manner};
 ghost use Rattle.manager.specs.Callers.{IsWorking, AnswersNone, KeepsOwn, KeepsOwnBut};
 
 use crate::counting::raised;
+use crate::giving::give_chains;
 use crate::types::Caller;
 use alloc_api::{Allocator, NoRecord};
 use pool::{Pool, Taken};
@@ -70,8 +73,8 @@ pub(crate) fn set_spare<S: Shape, R: Scheme>(
     caller.spare.count += 1;
 }
 
-// Retires a record. What leaves limbo is free.
-pub(crate) fn put_away<S: Shape, R: Scheme>(
+// Retires a record. What leaves limbo is free, and goes to the pool where it is much.
+pub(crate) fn put_away<S: Shape, R: Scheme, P: Pool>(
     table: &Table<S, R>,
     caller: &mut Caller<S, R>,
     taken: TakenOut,
@@ -86,7 +89,7 @@ pub(crate) fn put_away<S: Shape, R: Scheme>(
     ensures answers { AnswersNone (view caller.old.pass) (view caller.new.pass) }
     ensures owns { KeepsOwn (view caller.old.pass) (view caller.new.pass) }
     ensures stock { KeepsStock (view caller.old.pass).own (view caller.new.pass).own }
-    ensures does { (f : Freed) × R.puts_away (setup_of table.now) (view caller.old.pass).own taken f (view caller.new.pass).own }
+    ensures does { (d : Book) × (f : Freed) × R.puts_away (setup_of table.now) (view caller.old.pass).own taken f d × GivesChains P.SHELVES (gives_by P.SHELVES P.busy (setup_of table.now)) f d (view caller.new.pass).own }
     ensures hand { in_hand (view caller.new.pass).own + 1 ≡ in_hand (view caller.old.pass).own }
 {
     let left = R::put_away(
@@ -99,6 +102,7 @@ pub(crate) fn put_away<S: Shape, R: Scheme>(
     caller.moved.retired = raised(caller.moved.retired, 1);
     caller.moved.freed = raised(caller.moved.freed, left.freed);
     caller.moved.spent = raised(caller.moved.spent, left.spent);
+    give_chains::<S, R, P>(table, caller, left);
 }
 
 // A record that was never handed out.

@@ -1,5 +1,5 @@
 -- The callers of a table, one by one and all together.
-use Rattle.std.proofs.Common.{◌≡◌, ◌+◌, ◌<◌, List, [], ◌∷◌, map, get_or, All, refl, sym, ap, ◌∙◌, subst, arith}
+use Rattle.std.proofs.Common.{◌≡◌, ◌+◌, ◌<◌, List, [], ◌∷◌, map, get_or, All, Bool, refl, sym, ap, ◌∙◌, subst, arith}
 use Rattle.std.proofs.Math.ListN.{get_or-map}
 use Rattle.std.proofs.lemmas.List.{length-map}
 use Rattle.std.proofs.lemmas.List.Elements.{All-nil, All-cons, All-head, All-tail, All-weaker, All-map}
@@ -19,7 +19,7 @@ use Rattle.michael_hash.specs.Callers.{IsWholeCallerOf}
 
 module _ {S R L : Type 0} where
   -- it carries no more books than before
-  pub still_whole : (is_local : L → View → Type 0) (t : Table S R) (c d : Caller S R L) → IsWholeCallerOf is_local t c → IsPassOf t d.pass → IsResting is_local d → (view d.pass).others ≡ (view c.pass).others → IsWholeCallerOf is_local t d
+  pub still_whole : (is_local : L → Bool → View → View → Type 0) (t : Table S R) (c d : Caller S R L) → IsWholeCallerOf is_local t c → IsPassOf t d.pass → IsResting is_local d → (view d.pass).others ≡ (view c.pass).others → IsWholeCallerOf is_local t d
   still_whole is_local t c d h of resting others = record { whole = record { pass = of; whole = others ∙ h.whole.whole }; resting = resting }
 
   -- what is read of each caller's pass, read of the callers
@@ -27,7 +27,7 @@ module _ {S R L : Type 0} where
   read_off f [] = refl
   read_off {X = X} f (c ∷ cs) = ap (λ (l : List X). f c.pass ∷ l) (read_off f cs)
 
-  module _ (is_local : L → View → Type 0) (t : Table S R) where
+  module _ (is_local : L → Bool → View → View → Type 0) (t : Table S R) where
     -- all callers, as a table is closed with them
     pub all_passes : (cs : List (Caller S R L)) → All (IsWholeCallerOf is_local t) cs → map (λ c. (view c.pass).own.caller) cs ≡ numbers_from 0 (setup_of t).callers → AreAllPasses t (passes_of cs)
     all_passes cs has order = record {

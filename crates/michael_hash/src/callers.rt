@@ -1,5 +1,6 @@
 // What its callers do beside the three calls: they hold records, are counted, meet, and end the table.
 ghost use Rattle.std.specs.Prelude.{◌≡◌, ◌<◌, ◌⊎◌, All, map};
+ghost use Rattle.record_memory.specs.declared.books.Book.{Book};
 ghost use Rattle.row_words.specs.declared.links.Freed.{Freed};
 ghost use Rattle.record_rule.specs.World.{StartsWith};
 ghost use Rattle.list_facts.specs.Michael.{michael};
@@ -7,6 +8,8 @@ ghost use Rattle.record_table.specs.Handles.{setup_of, view, IsPassOf, IsSamePas
 ghost use Rattle.record_table.specs.Closing.{closed_setup, closed_books, own_book, AreAllPasses, IsClosedBy};
 ghost use Rattle.reclaim_api.specs.Frames.{LeavesRest};
 ghost use Rattle.reclaim_api.specs.Guarding.{Enters};
+ghost use Rattle.record_pieces.specs.Giving.{GivesChains};
+ghost use Rattle.manager.specs.Manners.{gives_by};
 ghost use Rattle.manager.specs.Callers.{IsResting};
 ghost use Rattle.manager.specs.Counted.{AreCountsOf};
 ghost use Rattle.manager.specs.Guards.{IsAtWork};
@@ -44,7 +47,8 @@ impl<R: Scheme, A: Allocator, P: Pool> MichaelHash<R, A, P> {
         ensures at_work { IsAtWork result }
         ensures pass { Enters caller.old.pass result.caller.now.pass }
         ensures rest { LeavesRest (view caller.old.pass) (view result.caller.now.pass) }
-        ensures did { (f : Freed) × R.enters (setup_of self.entry.now.lists.manager.table) (view caller.old.pass).own f (view result.caller.now.pass).own }
+        ensures did { (d : Book) × (f : Freed) × R.enters (setup_of self.entry.now.lists.manager.table) (view caller.old.pass).own f d
+            × GivesChains P.SHELVES (gives_by P.SHELVES P.busy (setup_of self.entry.now.lists.manager.table)) f d (view result.caller.now.pass).own }
     {
         self.lists.begin(caller)
     }

@@ -6,15 +6,17 @@ ghost use Rattle.list_facts.specs.Michael.{michael};
 ghost use Rattle.record_table.specs.Handles.{setup_of, view, IsPassOf, IsSamePass};
 ghost use Rattle.record_table.specs.Made.{AreFreshPasses, setup_with, AreBadRecords, AreBadCallers};
 ghost use Rattle.record_table.specs.Closing.{closed_setup, closed_books, own_book, AreAllPasses, IsClosedBy};
+ghost use Rattle.record_memory.specs.declared.books.Book.{Book};
 ghost use Rattle.row_words.specs.declared.links.Freed.{Freed};
 ghost use Rattle.reclaim_api.specs.Frames.{LeavesRest};
 ghost use Rattle.reclaim_api.specs.Guarding.{IsSameCaller, Enters};
 ghost use Rattle.record_pieces.specs.Events.{Event, begun, ended};
+ghost use Rattle.record_pieces.specs.Giving.{GivesChains};
 ghost use Rattle.record_pieces.specs.Trails.{Trail};
 ghost use Rattle.manager.specs.Callers.{IsResting};
 ghost use Rattle.manager.specs.Counted.{AreCountsOf};
 ghost use Rattle.manager.specs.Guards.{IsAtWork};
-ghost use Rattle.manager.specs.Manners.{manner};
+ghost use Rattle.manager.specs.Manners.{gives_by, manner};
 ghost use Rattle.manager.specs.Made.{passes_of, AreAddedUp};
 ghost use Rattle.set_calls.specs.Answers.{InsertTells, RemoveTells, SearchTells};
 ghost use Rattle.michael_list.specs.Pieces.{Inserts, Removes, Searches};
@@ -171,7 +173,8 @@ impl<R: Scheme, A: Allocator, P: Pool> MichaelList<R, A, P> {
         ensures at_work { IsAtWork result }
         ensures pass { Enters caller.old.pass result.caller.now.pass }
         ensures rest { LeavesRest (view caller.old.pass) (view result.caller.now.pass) }
-        ensures did { (f : Freed) × R.enters (setup_of self.entry.now.manager.table) (view caller.old.pass).own f (view result.caller.now.pass).own }
+        ensures did { (d : Book) × (f : Freed) × R.enters (setup_of self.entry.now.manager.table) (view caller.old.pass).own f d
+            × GivesChains P.SHELVES (gives_by P.SHELVES P.busy (setup_of self.entry.now.manager.table)) f d (view result.caller.now.pass).own }
     {
         self.manager.begin(caller)
     }

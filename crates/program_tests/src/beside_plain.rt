@@ -44,7 +44,7 @@ fn agrees<T: Threads + Wait + Sync>(
 }
 
 /// Words that make a workload without shared keys, and words that play it on the hash table.
-const ROWS: [(&str, &str); 6] = [
+const ROWS: [(&str, &str); 9] = [
     (
         "generate --callers 1 --calls 1000 --keys 20 --seed 1",
         "play --set michael --reclaimer none --buckets 1",
@@ -68,6 +68,18 @@ const ROWS: [(&str, &str); 6] = [
     (
         "generate --callers 64 --calls 100 --keys 268435456 --seed 6",
         "play --set michael --reclaimer none --buckets 4096",
+    ),
+    (
+        "generate --callers 4 --calls 1000 --keys 100 --seed 3",
+        "play --set michael --reclaimer debra --buckets 3",
+    ),
+    (
+        "generate --callers 64 --calls 100 --keys 10 --seed 5",
+        "play --set michael --reclaimer debra",
+    ),
+    (
+        "generate --callers 4 --calls 1000 --keys 100 --seed 3",
+        "play --set michael --reclaimer hazard --buckets 3",
     ),
 ];
 

@@ -1,5 +1,5 @@
-//! Tests of the whole program on Michael's hash table without reclamation: from words, bytes and a gate to what is
-//! printed and the status. Where replies depend on the order of the callers' steps, what must hold of them is tested.
+//! Tests of the whole program on Michael's hash table, under each reclaimer that is built: from words, bytes and a gate
+//! to what is printed and the status. Where replies depend on the order of the callers' steps, what must hold of them is tested.
 #![tactic(auto)]
 
 #[cfg(test)]

@@ -10,6 +10,12 @@ use std::thread::Threads;
 /// A play on the hash table, with as many records as its workload needs.
 pub const WORDS: &str = "play --set michael --reclaimer none";
 
+/// The same under DEBRA.
+pub const DEBRA_WORDS: &str = "play --set michael --reclaimer debra";
+
+/// The same with hazard pointers.
+pub const HAZARD_WORDS: &str = "play --set michael --reclaimer hazard";
+
 /// How a run ended, and what its sink got.
 #[derive(Drop)]
 pub struct Outcome {

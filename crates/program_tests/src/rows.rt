@@ -4,7 +4,7 @@ use crate::program::{Faults, run_failing, run_on};
 use std::test::Fail;
 
 /// Words, a text, the status and what is printed.
-const ROWS: [(&str, &str, u8, &str); 15] = [
+const ROWS: [(&str, &str, u8, &str); 23] = [
     // No call.
     (
         "play --set michael --reclaimer none",
@@ -105,6 +105,58 @@ const ROWS: [(&str, &str, u8, &str); 15] = [
         0,
         "set michael reclaimer none callers 3 calls 4\ncaller 0\ni 1 yes\ncaller 1\nr 1 yes\ncaller 2\ns 1 no\ni 1 yes\nsize 1 sum 1\nrecords drawn 2 reused 0 retired 1 freed 0 limbo 1 free 0 spare 0 spent 0\n",
     ),
+    // Under DEBRA a record is used again at the third rotation after its retirement.
+    (
+        "play --set michael --reclaimer debra --buckets 1",
+        "setbench 1\ncallers 1\ncaller 0\ni 1\nr 1\ni 2\nr 2\ni 3\nr 3\ni 4\nend\n",
+        0,
+        "set michael reclaimer debra callers 1 calls 7\ncaller 0\ni 1 yes\nr 1 yes\ni 2 yes\nr 2 yes\ni 3 yes\nr 3 yes\ni 4 yes\nsize 1 sum 4\nrecords drawn 2 reused 2 retired 3 freed 2 limbo 1 free 0 spare 0 spent 0\n",
+    ),
+    // Where there is one record, an insertion waits until it was freed.
+    (
+        "play --set michael --reclaimer debra --buckets 1 --records 2",
+        "setbench 1\ncallers 1\ncaller 0\ni 1\nr 1\ni 2\ns 2\ns 2\ni 2\nend\n",
+        5,
+        "set michael reclaimer debra callers 1 calls 6\ncaller 0\ni 1 yes\nr 1 yes\ni 2 full\ns 2 no\ns 2 no\ni 2 yes\nsize 1 sum 2\nrecords drawn 1 reused 1 retired 1 freed 1 limbo 0 free 0 spare 0 spent 0\n",
+    ),
+    // No call, two callers on keys of their own, and two phases, as above.
+    (
+        "play --set michael --reclaimer debra",
+        "setbench 1\ncallers 1\ncaller 0\nend\n",
+        0,
+        "set michael reclaimer debra callers 1 calls 0\ncaller 0\nsize 0 sum 0\nrecords drawn 0 reused 0 retired 0 freed 0 limbo 0 free 0 spare 0 spent 0\n",
+    ),
+    (
+        "play --set michael --reclaimer debra",
+        "setbench 1\ncallers 2\ncaller 0\ni 2\ns 2\nr 2\ni 4\ncaller 1\ni 3\nr 5\ns 3\nend\n",
+        0,
+        "set michael reclaimer debra callers 2 calls 7\ncaller 0\ni 2 yes\ns 2 yes\nr 2 yes\ni 4 yes\ncaller 1\ni 3 yes\nr 5 no\ns 3 yes\nsize 2 sum 7\nrecords drawn 3 reused 0 retired 1 freed 0 limbo 1 free 0 spare 0 spent 0\n",
+    ),
+    (
+        "play --set michael --reclaimer debra",
+        "setbench 2\ncallers 2\ncaller 0\ni 5\nphase\nr 7\ncaller 1\ni 7\nphase\ns 5\nend\n",
+        0,
+        "set michael reclaimer debra callers 2 calls 4\ncaller 0\ni 5 yes\nr 7 yes\ncaller 1\ni 7 yes\ns 5 yes\nsize 1 sum 5\nrecords drawn 2 reused 0 retired 1 freed 0 limbo 1 free 0 spare 0 spent 0\n",
+    ),
+    // With hazard pointers the sixth retirement of one caller scans, and keeps the record that its own word names.
+    (
+        "play --set michael --reclaimer hazard --buckets 1",
+        "setbench 1\ncallers 1\ncaller 0\ni 1\nr 1\ni 2\nr 2\ni 3\nr 3\ni 4\nr 4\ni 5\nr 5\ni 6\nr 6\nend\n",
+        0,
+        "set michael reclaimer hazard callers 1 calls 12\ncaller 0\ni 1 yes\nr 1 yes\ni 2 yes\nr 2 yes\ni 3 yes\nr 3 yes\ni 4 yes\nr 4 yes\ni 5 yes\nr 5 yes\ni 6 yes\nr 6 yes\nsize 0 sum 0\nrecords drawn 6 reused 0 retired 6 freed 5 limbo 1 free 5 spare 0 spent 0\n",
+    ),
+    (
+        "play --set michael --reclaimer hazard",
+        "setbench 1\ncallers 2\ncaller 0\ni 2\ns 2\nr 2\ni 4\ncaller 1\ni 3\nr 5\ns 3\nend\n",
+        0,
+        "set michael reclaimer hazard callers 2 calls 7\ncaller 0\ni 2 yes\ns 2 yes\nr 2 yes\ni 4 yes\ncaller 1\ni 3 yes\nr 5 no\ns 3 yes\nsize 2 sum 7\nrecords drawn 3 reused 0 retired 1 freed 0 limbo 1 free 0 spare 0 spent 0\n",
+    ),
+    (
+        "play --set michael --reclaimer hazard",
+        "setbench 2\ncallers 2\ncaller 0\ni 5\nphase\nr 7\ncaller 1\ni 7\nphase\ns 5\nend\n",
+        0,
+        "set michael reclaimer hazard callers 2 calls 4\ncaller 0\ni 5 yes\nr 7 yes\ncaller 1\ni 7 yes\ns 5 yes\nsize 1 sum 5\nrecords drawn 2 reused 0 retired 1 freed 0 limbo 1 free 0 spare 0 spent 0\n",
+    ),
 ];
 
 #[test]
@@ -120,7 +172,7 @@ fn plays_what_no_order_of_steps_changes(rt: HostRuntime) -> Result<(), Fail> {
 
 /// Trials, and what they print behind the first line. The numbers are those of another program, which draws the calls by
 /// PCG's description and plays each caller's on a set of Python's.
-const TRIALS: [(&str, &str); 3] = [
+const TRIALS: [(&str, &str); 6] = [
     (
         "trial --set michael --reclaimer none --callers 2 --calls 40 --keys 5 --seed 7",
         "trial michael none callers 2 calls 80\ninserted 16 removed 12 found 11\nsize 4 sum 17\n",
@@ -132,6 +184,18 @@ const TRIALS: [(&str, &str); 3] = [
     (
         "trial --set michael --reclaimer none --callers 4 --calls 20000 --keys 1000 --seed 7",
         "trial michael none callers 4 calls 80000\ninserted 15022 removed 12384 found 12532\nsize 2638 sum 5208886\n",
+    ),
+    (
+        "trial --set michael --reclaimer debra --callers 2 --calls 40 --keys 5 --seed 7",
+        "trial michael debra callers 2 calls 80\ninserted 16 removed 12 found 11\nsize 4 sum 17\n",
+    ),
+    (
+        "trial --set michael --reclaimer debra --callers 4 --calls 20000 --keys 1000 --seed 7",
+        "trial michael debra callers 4 calls 80000\ninserted 15022 removed 12384 found 12532\nsize 2638 sum 5208886\n",
+    ),
+    (
+        "trial --set michael --reclaimer hazard --callers 4 --calls 20000 --keys 1000 --seed 7",
+        "trial michael hazard callers 4 calls 80000\ninserted 15022 removed 12384 found 12532\nsize 2638 sum 5208886\n",
     ),
 ];
 

@@ -4,7 +4,7 @@
 
 use crate::program::{Outcome, run_on};
 use bench_core::Run;
-use set_model::{Call, Counts, Reply};
+use set_model::{Call, Counts, ReclaimerName, Reply};
 use std::alloc::{AllocError, Global};
 use std::test::Fail;
 
@@ -67,14 +67,21 @@ fn totals_of(effects: &Effects) -> Option<(u64, u64, u64, u64)> {
     Some((size, sum, added, removed))
 }
 
-/// Whether the counts can be those of a run without reclamation in which keys were added and taken away so often: a
-/// record was drawn for each key that was added and for each that waits unused, and what was retired stays in limbo. A
-/// record that was taken away may be linked still, where no caller came by since.
-fn fit(counts: Counts, added: u64, removed: u64) -> bool {
-    counts.drawn == added.saturating_add(counts.spare)
+/// Whether the counts can be those of a run in which keys were added and taken away so often: a record was handed out,
+/// new or again, for each key that was added and for each that waits unused; what was retired is in limbo or was freed,
+/// and what was freed was handed out again, is free or spent. A record that was taken away may be linked still, where no
+/// caller came by since. Without reclamation none was freed.
+fn fit(reclaimer: ReclaimerName, counts: Counts, added: u64, removed: u64) -> bool {
+    let handed_out = counts.drawn.saturating_add(counts.reused);
+    let freed = counts
+        .reused
+        .saturating_add(counts.free)
+        .saturating_add(counts.spent);
+    handed_out == added.saturating_add(counts.spare)
         && counts.retired <= removed
-        && counts.limbo == counts.retired
-        && (counts.reused, counts.freed, counts.free, counts.spent) == (0, 0, 0, 0)
+        && counts.limbo.saturating_add(counts.freed) == counts.retired
+        && counts.freed == freed
+        && (counts.freed == 0 || reclaimer != ReclaimerName::Nothing)
 }
 
 /// Whether all holds that must, of a run on keys below `keys`.
@@ -89,13 +96,13 @@ fn holds(alloc: Global, end: &Outcome, keys: u32) -> Result<bool, AllocError> {
     let status = if effects.full == 0 { 0 } else { 5 };
     Ok(
         (run.report.size, run.report.sum) == (size, sum)
-            && fit(run.report.counts, added, removed)
+            && fit(run.report.reclaimer, run.report.counts, added, removed)
             && end.status == status,
     )
 }
 
 /// Words that make a workload with shared keys, how many keys there are, and words that play it.
-const ROWS: [(&str, u32, &str); 6] = [
+const ROWS: [(&str, u32, &str); 12] = [
     (
         "generate --callers 2 --calls 2000 --keys 2 --seed 1 --shared yes",
         2,
@@ -126,6 +133,36 @@ const ROWS: [(&str, u32, &str); 6] = [
         100,
         "play --set michael --reclaimer none --buckets 4096",
     ),
+    (
+        "generate --callers 2 --calls 2000 --keys 2 --seed 1 --shared yes",
+        2,
+        "play --set michael --reclaimer debra --buckets 1",
+    ),
+    (
+        "generate --callers 4 --calls 2000 --keys 10 --seed 2 --shared yes",
+        10,
+        "play --set michael --reclaimer debra --buckets 1",
+    ),
+    (
+        "generate --callers 16 --calls 500 --keys 50 --seed 4 --shared yes",
+        50,
+        "play --set michael --reclaimer debra --buckets 7",
+    ),
+    (
+        "generate --callers 64 --calls 100 --keys 100 --seed 6 --shared yes",
+        100,
+        "play --set michael --reclaimer debra",
+    ),
+    (
+        "generate --callers 4 --calls 2000 --keys 10 --seed 2 --shared yes",
+        10,
+        "play --set michael --reclaimer hazard --buckets 1",
+    ),
+    (
+        "generate --callers 16 --calls 500 --keys 50 --seed 4 --shared yes",
+        50,
+        "play --set michael --reclaimer hazard --buckets 7",
+    ),
 ];
 
 #[test]
@@ -153,6 +190,25 @@ fn callers_without_records_are_told_so(rt: HostRuntime) -> Result<(), Fail> {
     assert!(rt; holds(alloc, &end, 50)?);
     let run = end.run.as_ref().ok_or("a run")?;
     assert_eq!(rt; run.report.counts.drawn, 19);
+    Ok(())
+}
+
+// So few records are used again and again: without that, 12 of them would be all that is ever added under DEBRA, and 39
+// with hazard pointers, where each caller keeps up to eleven until it scans.
+#[test]
+fn few_records_are_used_again(rt: HostRuntime) -> Result<(), Fail> {
+    let alloc = rt.alloc();
+    let made = "generate --callers 2 --calls 2000 --keys 4 --seed 7 --shared yes";
+    let text = run_on(&rt, alloc, made, b"")?;
+    for words in [
+        "play --set michael --reclaimer debra --buckets 1 --records 13",
+        "play --set michael --reclaimer hazard --buckets 1 --records 40",
+    ] {
+        let end = run_on(&rt, alloc, words, &text.got)?;
+        assert!(rt; holds(alloc, &end, 4)?, "{words}");
+        let run = end.run.as_ref().ok_or("a run")?;
+        assert!(rt; run.report.counts.reused > 0, "{words}");
+    }
     Ok(())
 }
 

@@ -81,6 +81,10 @@ rest_is (Some g) h e = ap (λ (x : Share). Some x) (rest_back g h g.standing e)
 pub spare_rest : (v w : View) → ((i : ℕ) → in_rest (share_in w i) ≡ in_rest (share_in v i)) → Stays Spare v w
 spare_rest v w rest i h known is = rest_is (share_in w i) h (rest i ∙ ap in_rest known ∙ ap (rest_as h) is)
 
+-- and so does an own one
+pub own_rest : (v w : View) → ((i : ℕ) → in_rest (share_in w i) ≡ in_rest (share_in v i)) → Stays Own v w
+own_rest v w rest i h known is = rest_is (share_in w i) h (rest i ∙ ap in_rest known ∙ ap (rest_as h) is)
+
 -- one share
 some_same : (a b : Share) → Some a ≡ Some b → a ≡ b
 some_same a b e = cc

@@ -1,3 +1,11 @@
 pub mod Kept
 pub mod Noting
 pub mod Keeping
+pub mod Leaving
+pub mod Stills
+pub mod StillChains
+pub mod Counting
+pub mod Bagged
+pub mod Retiring
+pub mod Freeings
+pub mod Reached

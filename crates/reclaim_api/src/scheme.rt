@@ -1,5 +1,5 @@
 // The functions of a reclaimer, and what they promise of their steps.
-ghost use Rattle.std.specs.Prelude.{◌≡◌, ℕ, ◌<◌, ◌≤◌, ◌^◌, [], false};
+ghost use Rattle.std.specs.Prelude.{◌≡◌, ℕ, ◌<◌, ◌≤◌, ◌^◌, [], Bool, false};
 ghost use Rattle.record_memory.specs.declared.books.Book.{Book};
 ghost use Rattle.record_memory.specs.declared.books.Setup.{Setup};
 ghost use Rattle.record_memory.specs.declared.books.Share.{Share};
@@ -14,6 +14,7 @@ ghost use Rattle.record_table.specs.declared.nodes.Node.{Node};
 ghost use Rattle.reclaim_api.specs.Chained.{IsChainOf};
 ghost use Rattle.reclaim_api.specs.Guarding.{IsInside, Enters, Leaves};
 ghost use Rattle.reclaim_api.specs.Frames.{SamePart, AddsSteps, FreesInto, LeavesRest, LeavesRestBut, LeavesRecords};
+ghost use Rattle.reclaim_api.specs.Locals.{IsLocalOf, HasNoneAway};
 ghost use Rattle.reclaim_api.specs.Holds.{IsElsewhere, HasReached, KeepsElse, KeepsHeld};
 ghost use Rattle.reclaim_api.specs.declared.holding.Holding.{Holding};
 
@@ -35,8 +36,9 @@ pub trait Scheme: Cover {
     /// What a caller keeps for itself between the calls: its last reading of an epoch, its bags.
     type Local: Drop;
 
-    // The local part is this caller's, as far as its pass knows.
-    ghost is_local: { Self.Local → View → Type 0 };
+    // The local part is this caller's: told by whether its pass is inside, what the pass knew when its guard began or
+    // ended, and what it knows.
+    ghost is_local: { Self.Local → Bool → View → View → Type 0 };
 
     // The steps of `enter` and what left limbo; of `leave`; of `birth` and its answer; of `reach` from a
     // node's word, for a place, and its answer; of `put_away` and what left limbo.
@@ -50,9 +52,11 @@ pub trait Scheme: Cover {
 
     ghost puts_away: { Setup → Book → RefParts → Freed → Book → Type 0 };
 
-    /// The local part of caller `caller` of `callers`, which made no step.
+    /// The local part of caller `caller`, from 0, of `callers`, at most 64. It made no step and is outside.
     fn local(caller: u32, callers: u32) -> Self::Local
-        ensures { (v : View) → v.own.caller ≡ caller → v.own.guard ≡ Self.facts.first → v.own.steps ≡ [] → is_local result v };
+        requires caller { caller < callers }
+        requires callers { callers ≤ 64 }
+        ensures { (v s : View) → v.own.caller ≡ caller → v.setup.callers ≡ callers → v.own.guard ≡ Self.facts.first → v.own.steps ≡ [] → HasNoneAway v → is_local result false s v };
 
     /// The caller begins an operation. Records of its limbo may become free: they are put in front of
     /// `free`, its chain of free records, but for those that are spent.
@@ -64,10 +68,10 @@ pub trait Scheme: Cover {
     ) -> Freed
         requires pass { IsPassOf table.now pass.old }
         requires outside { is_inside pass.old ≡ false }
-        requires local { is_local local.old (view pass.old) }
+        requires local { IsLocalOf is_local local.old pass.old }
         requires free { IsChainOf Free (view pass.old) free.old }
         ensures pass { Enters pass.old pass.new }
-        ensures local { is_local local.new (view pass.new) }
+        ensures local { IsLocalOf is_local local.new pass.new }
         ensures free { IsChainOf Free (view pass.new) free.new }
         ensures frees { FreesInto (view pass.old) free.old result (view pass.new) free.new }
         ensures rest { LeavesRest (view pass.old) (view pass.new) }
@@ -77,9 +81,9 @@ pub trait Scheme: Cover {
     fn leave<S: Shape>(table: &Table<S, Self>, pass: &mut Pass<S, Self>, local: &mut Self::Local)
         requires pass { IsPassOf table.now pass.old }
         requires inside { IsInside pass.old }
-        requires local { is_local local.old (view pass.old) }
+        requires local { IsLocalOf is_local local.old pass.old }
         ensures pass { Leaves pass.old pass.new }
-        ensures local { is_local local.new (view pass.new) }
+        ensures local { IsLocalOf is_local local.new pass.new }
         ensures rest { LeavesRecords (view pass.old) (view pass.new) }
         ensures does { leaves (setup_of table.now) (view pass.old).own (view pass.new).own };
 
@@ -91,10 +95,10 @@ pub trait Scheme: Cover {
     ) -> u64
         requires pass { IsPassOf table.now pass.old }
         requires inside { IsInside pass.old }
-        requires local { is_local local.old (view pass.old) }
+        requires local { IsLocalOf is_local local.old pass.old }
         ensures pass { IsSamePass pass.old pass.new }
         ensures inside { IsInside pass.new }
-        ensures local { is_local local.new (view pass.new) }
+        ensures local { IsLocalOf is_local local.new pass.new }
         ensures rest { LeavesRecords (view pass.old) (view pass.new) }
         ensures keeps { KeepsHeld pass.old pass.new }
         ensures fits { result < 2 ^ 44 }
@@ -114,7 +118,7 @@ pub trait Scheme: Cover {
     ) -> Holding
         requires pass { IsPassOf table.now pass.old }
         requires inside { IsInside pass.old }
-        requires local { is_local local.old (view pass.old) }
+        requires local { IsLocalOf is_local local.old pass.old }
         requires place { place < PLACES }
         requires from { HoldsNode pass.old from }
         requires elsewhere { IsElsewhere (origin from) place }
@@ -122,7 +126,7 @@ pub trait Scheme: Cover {
         requires link { S.facts.may_hold (near_of (view pass.old) (origin from)) 3 }
         ensures pass { IsSamePass pass.old pass.new }
         ensures inside { IsInside pass.new }
-        ensures local { is_local local.new (view pass.new) }
+        ensures local { IsLocalOf is_local local.new pass.new }
         ensures rest { LeavesRecords (view pass.old) (view pass.new) }
         ensures reached { HasReached S.facts place (origin from) pass.old result pass.new }
         ensures keeps { KeepsElse place pass.old pass.new }
@@ -139,21 +143,21 @@ pub trait Scheme: Cover {
     ) -> Freed
         requires pass { IsPassOf table.now pass.old }
         requires inside { IsInside pass.old }
-        requires local { is_local local.old (view pass.old) }
+        requires local { IsLocalOf is_local local.old pass.old }
         requires free { IsChainOf Free (view pass.old) free.old }
         requires taken { (h : Share) × HasTaken (view pass.old) taken h }
         ensures pass { IsSamePass pass.old pass.new }
         ensures inside { IsInside pass.new }
-        ensures local { is_local local.new (view pass.new) }
+        ensures local { IsLocalOf is_local local.new pass.new }
         ensures free { IsChainOf Free (view pass.new) free.new }
         ensures frees { FreesInto (view pass.old) free.old result (view pass.new) free.new }
         ensures rest { LeavesRestBut taken.index (view pass.old) (view pass.new) }
         ensures keeps { KeepsHeld pass.old pass.new }
         ensures does { puts_away (setup_of table.now) (view pass.old).own taken result (view pass.new).own };
 
-    // Whether a local part is this caller's depends on its guard and on its records in limbo alone, and a guard may
-    // start with any load of a link.
-    ghost local_stays: { (l : Self.Local) (v w : View) → SamePart Self.facts v w → is_local l v → is_local l w };
+    // Of what its pass knows, whether a local part is this caller's depends on its guard, on its records in limbo and on
+    // how many it retired alone, and a guard may start with any load of a link.
+    ghost local_stays: { (l : Self.Local) (inside : Bool) (s v w : View) → SamePart Self.facts v w → is_local l inside s v → is_local l inside s w };
 
     // Each call only adds steps.
     ghost enters_adds: { (k : Setup) (b : Book) (f : Freed) (c : Book) → enters k b f c → AddsSteps b c };

@@ -3,7 +3,8 @@ ghost use Rattle.std.specs.Prelude.{◌≡◌, refl, ◌++◌, []};
 ghost use Rattle.record_memory.specs.declared.books.Book.{Book};
 ghost use Rattle.cover_facts.proofs.KeepingLaws.{none_laws};
 ghost use Rattle.reclaim_api.proofs.Kept.{same_adds};
-ghost use Rattle.reclaim_none.specs.Running.{Enters, Leaves, Bears, Reaches, PutsAway};
+ghost use Rattle.reclaim_api.specs.LinkLoads.{ReachesByLoad};
+ghost use Rattle.reclaim_none.specs.Running.{Enters, Leaves, Bears, PutsAway};
 
 use crate::NoReclaim;
 use reclaim_api::{Holding, Scheme};
@@ -20,7 +21,7 @@ impl Scheme for NoReclaim {
 
     type Local = ();
 
-    ghost is_local = { λ l v. Unit {0} };
+    ghost is_local = { λ l inside s v. Unit {0} };
 
     ghost enters = { Enters };
 
@@ -28,7 +29,7 @@ impl Scheme for NoReclaim {
 
     ghost bears = { Bears };
 
-    ghost reaches = { Reaches };
+    ghost reaches = { ReachesByLoad };
 
     ghost puts_away = { PutsAway };
 
@@ -89,7 +90,7 @@ impl Scheme for NoReclaim {
         NONE_FREED
     }
 
-    ghost local_stays = { λ l v w e h. h };
+    ghost local_stays = { λ l inside s v w e h. h };
 
     ghost enters_adds = { λ k b f c h. same_adds b c h.0 };
 

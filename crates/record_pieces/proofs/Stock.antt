@@ -19,7 +19,9 @@ use Rattle.reclaim_api.specs.Frames.{AddsSteps, had, is_as}
 use Rattle.reclaim_api.specs.declared.holding.Holding.{Holding}
 use Rattle.reclaim_api.proofs.Kept.{same_adds}
 use Rattle.record_pieces.specs.Manners.{Manner}
-use Rattle.record_pieces.specs.Events.{Event, begun, hopped, keyed, looked, exchanged, published, unlinked, took, refused, stored_own, gave_back, retired, placed, ended, OneStep, Exchanges, HandsOut, KeepsStock, Gets, from_free, from_pool, from_draw, Takes, from_spare, handed, Does}
+use Rattle.record_pieces.specs.OwnSteps.{OneStep}
+use Rattle.record_pieces.specs.Giving.{CutsOff, GivesOne, KeepsOne, GivesChains, gave_all, kept_one, gave_one}
+use Rattle.record_pieces.specs.Events.{Event, begun, hopped, keyed, looked, exchanged, published, unlinked, took, refused, stored_own, gave_back, retired, placed, ended, Exchanges, HandsOut, KeepsStock, Gets, from_free, from_pool, from_draw, Takes, from_spare, handed, Does}
 use Rattle.record_pieces.specs.Trails.{Trail}
 
 -- an event that gets no record and gives none back
@@ -62,6 +64,7 @@ pub record OnlyAdds (m : Manner) (k : Setup) : Type 0 where
   pub draws : (b c : Book) (r : RefParts) → m.draws k b r c → AddsSteps b c
   pub refuses : (b c : Book) (n : ℕ) → m.refuses k b n c → AddsSteps b c
   pub takes : (b c : Book) (came : Bool) → m.takes k b came c → AddsSteps b c
+  pub gives : (b c : Book) (put : Bool) → m.gives k b put c → AddsSteps b c
 
 pub adds_none : (b : Book) → AddsSteps b b
 adds_none b = same_adds b b refl
@@ -131,8 +134,22 @@ module _ (m : Manner) (k : Setup) where
     takes_add b r c (from_spare n one fewer same) = one_adds b c _ one
     takes_add b r c (handed d e birth none gets bears hands same left) = adds_both b d c (gets_add b r d gets) (adds_both d e c (only.bears d e birth bears) (hands_add r birth e c hands))
 
+    cut_adds : (b : Book) (last : RefParts) (c : Book) → CutsOff b last c → AddsSteps b c
+    cut_adds b last c h = (_, h.steps)
+
+    gives_add : (b c : Book) → GivesOne m.shelves (m.gives k) b c → AddsSteps b c
+    gives_add b c h = adds_both b h.between c (cut_adds b h.last h.between h.cut) (only.gives h.between c true h.given)
+
+    kept_adds : (b c : Book) → KeepsOne m.shelves (m.gives k) b c → AddsSteps b c
+    kept_adds b c h = adds_both b h.between c (cut_adds b h.last h.between h.cut) (adds_both h.between h.kept c (only.gives h.between h.kept false h.given) (one_adds h.kept c _ h.mended.2))
+
+    chains_add : (f : Freed) (b c : Book) → GivesChains m.shelves (m.gives k) f b c → AddsSteps b c
+    chains_add f b c (gave_all _ _ none same) = same_adds b c same
+    chains_add f b c (kept_one _ _ some h) = kept_adds b c h
+    chains_add f b c (gave_one _ d _ some h more) = adds_both b d c (gives_add b d h) (chains_add f d c more)
+
     adds_one : (e : Event) (b c : Book) → Does m k e b c → AddsSteps b c
-    adds_one begun b c d = only.enters b c d.acts.0.0 d.acts.0.1
+    adds_one begun b c d = let a = d.acts.0 in adds_both b a.0 c (only.enters b a.0 a.1 a.2) (chains_add a.1 a.0 c a.3)
     adds_one (hopped place at f h seen) b c d = only.reaches b c place at f h d.acts.0
     adds_one (keyed r key) b c d = one_adds b c _ d.acts.0.2
     adds_one (looked at f link seen) b c d = one_adds b c _ d.acts.0.2
@@ -143,7 +160,7 @@ module _ (m : Manner) (k : Setup) where
     adds_one (refused n) b c d = adds_both b d.acts.between c (only.takes b d.acts.between false d.acts.took) (only.refuses d.acts.between c n d.acts.refused)
     adds_one (stored_own r f payload) b c d = one_adds b c _ d.acts.0.1
     adds_one (gave_back r) b c d = one_adds b c _ d.acts.0.2
-    adds_one (retired r) b c d = only.puts_away b c r d.acts.0.0 d.acts.0.1
+    adds_one (retired r) b c d = let a = d.acts.0 in adds_both b a.0 c (only.puts_away b a.0 r a.1 a.2) (chains_add a.1 a.0 c a.3)
     adds_one (placed call reply position) b c d = one_adds b c _ d.acts.0.1
     adds_one ended b c d = only.leaves b c d.acts.0
 

@@ -4,7 +4,7 @@ use Rattle.set_model.specs.declared.calls.Call.{Call}
 use Rattle.record_memory.specs.declared.steps.Step.{Step}
 use Rattle.record_memory.specs.declared.steps.Word.TheVariants.{Field, Drawn}
 use Rattle.record_memory.specs.declared.steps.StepKind.{StepKind}
-use Rattle.record_memory.specs.declared.steps.StepKind.TheVariants.{Load, Store, Exchange}
+use Rattle.record_memory.specs.declared.steps.StepKind.TheVariants.{Load, Exchange}
 use Rattle.record_memory.specs.declared.books.Setup.{Setup}
 use Rattle.record_memory.specs.declared.books.Book.{Book}
 use Rattle.record_memory.specs.declared.books.Share.{Share}
@@ -23,9 +23,12 @@ use Rattle.record_table.specs.Nodes.{origin}
 use Rattle.reclaim_api.specs.declared.holding.Holding.{Holding}
 use Rattle.reclaim_api.specs.Frames.{had}
 use Rattle.record_pieces.specs.Hands.{in_hand}
+use Rattle.record_pieces.specs.OwnSteps.{OneStep, own_load, own_store}
+use Rattle.record_pieces.specs.Giving.{GivesChains}
 use Rattle.record_pieces.specs.Manners.{Manner}
 
 pub data Event : Type 0 where
+  -- the operation began, and where records became free chains of free ones were given to the pool
   begun : Event
   -- a try to hold: for which place, from which node and word, its answer, and how many updates had taken effect at its last load of the link
   hopped : ℕ → Node → ℕ → Holding → ℕ → Event
@@ -45,6 +48,7 @@ pub data Event : Type 0 where
   -- a word of an own record was stored
   stored_own : RefParts → ℕ → ℕ → Event
   gave_back : RefParts → Event
+  -- a record was retired, with the same for what became free
   retired : RefParts → Event
   -- a read was placed, behind so many updates
   placed : Call → Bool → ℕ → Event
@@ -89,10 +93,6 @@ dropped (retired r) = 1
 dropped (placed call reply position) = 0
 dropped ended = 0
 
--- one step more
-abbrev pub OneStep : Book → Step → Book → Type 0
-OneStep b t c = c.steps ≡ b.steps ++ t ∷ []
-
 -- a step on a node's word
 abbrev pub node_step : Book → StepKind → Node → ℕ → ℕ → ℕ → Step
 node_step b kind at f found left = record { kind = kind; word = Field (index_of (origin at)) f; held = held_at (origin at); found = found; left = left; idle = idle b }
@@ -100,13 +100,6 @@ node_step b kind at f found left = record { kind = kind; word = Field (index_of 
 -- the load of a held record's key
 abbrev pub key_load : Book → RefParts → ℕ → Step
 key_load b r n = record { kind = Load; word = Field r.index 4; held = Some r; found = n; left = n; idle = idle b }
-
--- the owner's load and store of a word of its record
-abbrev pub own_load : Book → RefParts → ℕ → ℕ → Step
-own_load b r f n = record { kind = Load; word = Field r.index f; held = None; found = n; left = n; idle = idle b }
-
-abbrev pub own_store : Book → RefParts → ℕ → ℕ → ℕ → Step
-own_store b r f found left = record { kind = Store; word = Field r.index f; held = None; found = found; left = left; idle = idle b }
 
 -- the load that places a read, of the word that counts the records drawn
 abbrev pub placing_load : Book → ℕ → Step
@@ -155,7 +148,7 @@ module _ (m : Manner) (k : Setup) where
 
   -- the steps of an event, and what it leaves of the caller's stock
   abbrev pub Acts : Event → Book → Book → Type 0
-  Acts begun b c = ((f : Freed) × m.enters k b f c) × KeepsStock b c
+  Acts begun b c = ((d : Book) × (f : Freed) × m.enters k b f d × GivesChains m.shelves (m.gives k) f d c) × KeepsStock b c
   Acts (hopped p at f h seen) b c = m.reaches k p at f b h c × (c.updates_seen ≡ seen) × KeepsStock b c
   Acts (keyed r key) b c = ((n : ℕ) × (key ≡ key_in n) × OneStep b (key_load b r n) c) × KeepsStock b c
   Acts (looked at f link seen) b c = ((n : ℕ) × (link ≡ link_in n) × OneStep b (node_step b Load at f n n) c) × (c.updates_seen ≡ seen) × KeepsStock b c
@@ -166,7 +159,7 @@ module _ (m : Manner) (k : Setup) where
   Acts (refused n) b c = FindsNone b n c
   Acts (stored_own r f payload) b c = ((found : ℕ) × OneStep b (own_store b r f found (packed_number r.generation payload)) c) × KeepsStock b c
   Acts (gave_back r) b c = ((found : ℕ) × (left : ℕ) × OneStep b (own_store b r 1 found left) c) × (had is_spare c ≡ had is_spare b + 1) × (c.moves.drawn ≡ b.moves.drawn)
-  Acts (retired r) b c = ((f : Freed) × m.puts_away k b r f c) × KeepsStock b c
+  Acts (retired r) b c = ((d : Book) × (f : Freed) × m.puts_away k b r f d × GivesChains m.shelves (m.gives k) f d c) × KeepsStock b c
   Acts (placed call reply position) b c = ((n : ℕ) × OneStep b (placing_load b n) c) × (c.answered ≡ b.answered ++ read_at position call reply ∷ []) × KeepsStock b c
   Acts ended b c = m.leaves k b c × KeepsStock b c
 

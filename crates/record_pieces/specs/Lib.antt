@@ -1,4 +1,6 @@
 pub mod Hands
+pub mod OwnSteps
+pub mod Giving
 pub mod Manners
 pub mod Events
 pub mod Trails

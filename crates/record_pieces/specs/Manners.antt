@@ -18,5 +18,7 @@ pub record Manner : Type 1 where
   -- the allocator's: a draw, and one that found none left
   pub draws : Setup → Book → RefParts → Book → Type 0
   pub refuses : Setup → Book → ℕ → Book → Type 0
-  -- the pool's: whether a chain came, or every shelf was looked at and found empty
+  -- the pool's: how many shelves it has; whether a chain came, or every shelf was looked at and found empty; whether one was put on a shelf, or every shelf was looked at and found taken
+  pub shelves : ℕ
   pub takes : Setup → Book → Bool → Book → Type 0
+  pub gives : Setup → Book → Bool → Book → Type 0

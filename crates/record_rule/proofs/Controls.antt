@@ -7,7 +7,7 @@ use lib.ListN.{get_elem?}
 use Rattle.atomic_table.specs.Table.{State}
 use Rattle.atomic_table.proofs.Lists.{at_map, at_set, set_here, set_else}
 use Rattle.record_memory.specs.declared.steps.Word.{Word}
-use Rattle.record_memory.specs.declared.steps.Word.TheVariants.{Epoch, Announced}
+use Rattle.record_memory.specs.declared.steps.Word.TheVariants.{Drawn, Epoch, Lock, Blank, Shelf, Announced, Cursor, Field}
 use Rattle.record_memory.specs.declared.steps.Step.{Step}
 use Rattle.record_memory.specs.declared.books.Setup.{Setup}
 use Rattle.record_memory.specs.declared.books.View.{View}
@@ -29,13 +29,13 @@ use Rattle.record_rule.proofs.Waiting.{waits_hidden, waits_confirmed}
 use Rattle.record_rule.specs.Laws.{limbo_record, ShapeLaws, CoverLaws, IsSafe, IsThere, ValueIs, moment, with_guard, FreedCells, HiddenCells, IsHidden, HasLoaded, HasCleared, KeepsHidden}
 use Rattle.record_rule.specs.Known.{KnownFits}
 use Rattle.record_rule.specs.World.{IsRecent, Places, Parts, Rule, overshoot}
-use Rattle.record_rule.specs.Kinds.{control_load, Lawful}
+use Rattle.record_rule.specs.Kinds.{control_load, ShowsBelow, Lawful}
 use Rattle.record_rule.specs.Links.{with_step}
-use Rattle.record_rule.specs.Freeing.{freed_from, LoadedControl}
+use Rattle.record_rule.specs.Freeing.{freed_from, LoadedControl, LoadedBy}
 use Rattle.record_rule.proofs.Lists.{below_at, at_below, one_at, get_at, map_set_same}
 use Rattle.record_rule.proofs.Quiet.{same_overshoot, past_before, books_after, calm_after}
 use Rattle.record_rule.proofs.Rebuilt.{starts_itself, one_more, made_more, stepped}
-use Rattle.record_rule.proofs.Loads.{load_within, control_fits}
+use Rattle.record_rule.proofs.Loads.{load_within, control_fits, loads_control}
 use Rattle.record_rule.specs.Kinds.{freed_more}
 use Rattle.record_rule.specs.Freeing.{count_freed}
 use Rattle.record_rule.proofs.FreedCounts.{counts_freed}
@@ -353,6 +353,10 @@ module _ (shape : ShapeFacts) (cover : CoverFacts) (setup : Setup) (s : State (U
   value_of word h = value_by (word_at setup.callers word) (get_or s.words word 0) (is_word setup.callers setup.records word h)
       (sym (loads setup.callers setup.records s.words (word_at setup.callers word) (is_word setup.callers setup.records word h)) ∙ ap (λ (z : ℕ). get_or s.words z 0) (address-word_at setup.callers setup.records word))
 
+-- who has a guard is one of the table's callers
+counted_there : (k setup : Setup) → k ≡ setup → {c n : ℕ} → c < n → n ≡ setup.callers → c < k.callers
+counted_there k setup same lt many = let e = ap (λ (z : Setup). z.callers) same in omega arith
+
 module _ (shape : ShapeFacts) (cover : CoverFacts) (shaped : ShapeLaws shape) (covering : CoverLaws cover) (setup : Setup) where
   -- Any control word may be loaded
   pub loads_controlled : (id word : ℕ) (v : View) → v.present ≡ true → v.setup ≡ setup → word < size setup.callers setup.records
@@ -367,6 +371,32 @@ module _ (shape : ShapeFacts) (cover : CoverFacts) (shaped : ShapeLaws shape) (c
       moment = moment (scheme_input (before shape cover setup s u)) (length u.updates);
       taken_out_is = refl;
       updates_is = refl;
+      counted = counted_there v.setup setup same (below_at (before shape cover setup s u).guards v.own.caller v.own.guard (at_map guard_of u.books v.own.caller v.own (book shape cover setup s u id v at present))) (length-map u.books guard_of ∙ u.places.callers);
+      shows = let x : SchemeInput = scheme_input (before shape cover setup s u) in subst (λ (k : Setup). cover.shows k v.own.guard (word_at v.setup.callers word) (get_or s.words word 0)) (sym same)
+          (covering.shown setup x v.own.caller (get_or s.words word 0) v.own.guard (word_at v.setup.callers word) (safe shape cover setup u.records u.books u.taken_out u.updates (memory setup.callers setup.records s.words) u.places u.parts) u.parts.scheme
+          (at_map guard_of u.books v.own.caller v.own (book shape cover setup s u id v at present)) value);
       view = refl;
     },
   )
+
+  -- so may one by the word, and a look at the number of records drawn shows whether one is left
+  pub loads_by : (id word : ℕ) (v : View) → v.present ≡ true → v.setup ≡ setup → word < size setup.callers setup.records
+      → Lawful (Rule shape cover setup) id v word (λ n. n) (λ n w. LoadedBy cover v (word_at v.setup.callers word) word n w × ShowsBelow v word n)
+  loads_by id word v present same within = by (word_at v.setup.callers word) refl
+    where
+      Told : Word → Type 0
+      Told x = Lawful (Rule shape cover setup) id v word (λ n. n) (λ n w. LoadedBy cover v x word n w × ShowsBelow v word n)
+
+      -- no other word is that of the records drawn
+      learns : (x : Word) → word_at v.setup.callers word ≡ x → x ≢ Drawn → Lawful (Rule shape cover setup) id v word (λ n. n) (λ n w. LoadedControl cover v word n w × ShowsBelow v word n)
+      learns x is another s u at = let l = loads_controlled id word v present same within s u at in (l.0, l.1, (l.2, λ first. absurd (another (sym is ∙ ap (word_at v.setup.callers) first))))
+
+      by : (x : Word) → word_at v.setup.callers word ≡ x → Told x
+      by Epoch is = learns Epoch is (λ e. cc)
+      by (Announced k) is = learns (Announced k) is (λ e. cc)
+      by Drawn is = loads_control shape cover setup id v word present
+      by Lock is = loads_control shape cover setup id v word present
+      by Blank is = loads_control shape cover setup id v word present
+      by (Shelf k) is = loads_control shape cover setup id v word present
+      by (Cursor d) is = loads_control shape cover setup id v word present
+      by (Field i f) is = loads_control shape cover setup id v word present

@@ -153,7 +153,7 @@ module _ (setup : Setup) (r : Record) (f value : ℕ) (below : f < 8) (own : own
   stores_as TakenOut h = stores_whole TakenOut (λ g. refl) (λ n e. cc)
   stores_as Limbo h = stores_whole Limbo (λ g. refl) (λ n e. cc)
   stores_as Free h = stores_whole Free (λ g. refl) (λ n e. cc)
-  stores_as Spent h = absurd h
+  stores_as Spent h = stores_whole Spent (λ g. refl) (λ n e. cc)
 
 -- what the caller knows of the record afterwards
 known_whole : (f value : ℕ) (row : List ℕ) → f < 3 → take 3 (set row f value) ≡ set (take 3 row) f value
@@ -169,7 +169,6 @@ pub known_after : (s : Standing) (f value : ℕ) (row : List ℕ) → MayStoreAs
 known_after (Handing n) f value row h = known_handing n (eqb n 7) f value row
 known_after Own f value row h = refl
 known_after Spare f value row h = refl
-known_after Spent f value row h = absurd h
 known_after s f value row h = known_whole f value row (omega arith)
 
 -- the set's facts do not see the step

@@ -64,7 +64,7 @@ stored_part Spare row f eight may below = omega arith
 stored_part TakenOut row f eight may below = let l = length-take 3 row in omega arith
 stored_part Limbo row f eight may below = let l = length-take 3 row in omega arith
 stored_part Free row f eight may below = let l = length-take 3 row in omega arith
-stored_part Spent row f eight may below = absurd may
+stored_part Spent row f eight may below = let l = length-take 3 row in omega arith
 
 -- the generation of a record is the one that a word of its owner's carries, or the next one
 carried_or_next : (q : Standing) (generation f : ℕ) → (generation ≡ carried_by q generation f) ⊎ (generation ≡ carried_by q generation f + 1)

@@ -38,9 +38,9 @@ IsChained Spare = Unit {0}
 IsChained TakenOut = ⊥
 IsChained Limbo = Unit {0}
 IsChained Free = Unit {0}
-IsChained Spent = ⊥
+IsChained Spent = Unit {0}
 
--- the record is own, spare, in limbo or free of the caller, at this generation
+-- the record is own, spare, in limbo, free or spent of the caller, at this generation
 pub record OwnsChain (v : View) (r : RefParts) : Type 0 where
   pub is_ref : IsRef r
   pub within : r.index ≤ v.setup.records
@@ -55,12 +55,36 @@ pub record IsFree (v : View) (r : RefParts) : Type 0 where
   pub owns : OwnsChain v r
   pub free : owns.share.standing ≡ Free
 
--- what is known of a record but for its chain word
+-- how a caller has the records that were retired
+abbrev pub IsAway : Standing → Type 0
+IsAway (Handing n) = ⊥
+IsAway Own = ⊥
+IsAway Spare = ⊥
+IsAway TakenOut = ⊥
+IsAway Limbo = Unit {0}
+IsAway Free = Unit {0}
+IsAway Spent = Unit {0}
+
+-- the record is in limbo, free or spent of the caller, at this generation
+pub record OwnsAway (v : View) (r : RefParts) : Type 0 where
+  pub owns : OwnsChain v r
+  pub away : IsAway owns.share.standing
+
+-- what is known of a record but for the chain word of one that was retired
+abbrev pub unchained_as : Share → Standing → Share
+unchained_as h (Handing n) = h
+unchained_as h Own = h
+unchained_as h Spare = h
+unchained_as h TakenOut = h
+unchained_as h Limbo = record h { words = slice_set h.words 1 0 }
+unchained_as h Free = record h { words = slice_set h.words 1 0 }
+unchained_as h Spent = record h { words = slice_set h.words 1 0 }
+
 abbrev pub unchained : Option Share → Option Share
 unchained None = None
-unchained (Some h) = Some (record h { words = slice_set h.words 1 0 })
+unchained (Some h) = Some (unchained_as h h.standing)
 
--- what is known but for steps and chain words
+-- what is known but for steps and such chain words
 abbrev pub quiet : View → View
 quiet v = record v { own = record v.own { steps = []; mine = map unchained v.own.mine; drawing = Unsure } }
 
@@ -73,7 +97,7 @@ pub record IsRowStep (n : ℕ) (t : Step) : Type 0 where
   pub held : t.held ≡ None
   pub idle : t.idle ≡ n
 
--- the caller made steps on the first words of rows, and nothing but chain words changed
+-- the caller made steps on the first words of rows, and nothing but chain words of records that were retired changed
 pub record IsStill (v w : View) : Type 0 where
   pub rest : quiet w ≡ quiet v
   pub made : List Step

@@ -169,6 +169,8 @@ pub record CoverFacts : Type 1 where
   -- whether it may follow a link, and its guard once it has; the target is missing where there is none to hold
   pub may_reach : Guard → Reach → Type 0
   pub reached : Moment → Guard → Reach → Option RefParts → Guard
+  -- what a load of a control word shows, by the guard that its caller had
+  pub shows : Setup → Guard → Word → ℕ → Type 0
   -- its guard after it loaded this value of a control word; which records of its limbo leave then; and the guard once they left
   pub loaded : Setup → Moment → ℕ → Guard → Word → ℕ → Guard
   pub may_free : Setup → Guard → LimboRecord → Bool

@@ -1,6 +1,8 @@
 -- A load of a control word, after which records of the caller's limbo may be free.
-use Rattle.std.specs.Prelude.{◌≡◌, ℕ, ◌+◌, List, [], ◌∷◌, length, Bool, Option, Some, None, slice_index_or, ◌==◌, ◌&&◌, if◌then◌else◌}
+use Rattle.std.specs.Prelude.{◌≡◌, ℕ, ◌+◌, ◌<◌, List, [], ◌∷◌, length, Bool, Option, Some, None, slice_index_or, ◌==◌, ◌&&◌, if◌then◌else◌}
 use Rattle.set_model.specs.declared.calls.Update.{Update}
+use Rattle.record_memory.specs.declared.steps.Word.{Word}
+use Rattle.record_memory.specs.declared.steps.Word.TheVariants.{Drawn, Epoch, Lock, Blank, Shelf, Announced, Cursor, Field}
 use Rattle.record_memory.specs.declared.books.View.{View}
 use Rattle.record_memory.specs.declared.books.Share.{Share}
 use Rattle.record_memory.specs.declared.books.Guard.{Guard}
@@ -10,7 +12,7 @@ use Rattle.record_memory.specs.Memory.{word_at}
 use Rattle.row_words.specs.Refs.{RefParts, refer}
 use Rattle.row_words.specs.Packing.{number_in}
 use Rattle.record_rule.specs.Facts.{Moment, LimboRecord, CoverFacts}
-use Rattle.record_rule.specs.Kinds.{freed_more, control_load}
+use Rattle.record_rule.specs.Kinds.{freed_more, control_load, loaded_control}
 use Rattle.record_rule.specs.Links.{with_step, AreWhole}
 use Rattle.record_rule.specs.Standings.{is_limbo}
 
@@ -54,6 +56,10 @@ pub record LoadedControl (c : CoverFacts) (v : View) (word n : ℕ) (w : View) :
   pub moment : Moment
   pub taken_out_is : moment.taken_out ≡ length taken_out
   pub updates_is : moment.updates ≡ length updates
+  -- its caller is one of the table's
+  pub counted : v.own.caller < v.setup.callers
+  -- what the reclaimer learns of the value by the guard before
+  pub shows : c.shows v.setup v.own.guard (word_at v.setup.callers word) n
   pub view : w ≡ record v {
     own = record (with_step v.own v.setup.records (control_load v word n)) {
       mine = freed_from (c.may_free v.setup (guard_loaded c v word n moment)) 0 v.own.mine;
@@ -61,3 +67,14 @@ pub record LoadedControl (c : CoverFacts) (v : View) (word n : ℕ) (w : View) :
       guard = c.cleared v.setup (guard_loaded c v word n moment);
     };
   }
+
+-- A load of a control word by anybody: of the epoch and of an announcement the reclaimer learns, and every other word leaves guard and records as they were
+abbrev pub LoadedBy : CoverFacts → View → Word → ℕ → ℕ → View → Type 0
+LoadedBy c v Drawn word n w = w ≡ loaded_control v word n
+LoadedBy c v Epoch word n w = LoadedControl c v word n w
+LoadedBy c v Lock word n w = w ≡ loaded_control v word n
+LoadedBy c v Blank word n w = w ≡ loaded_control v word n
+LoadedBy c v (Shelf k) word n w = w ≡ loaded_control v word n
+LoadedBy c v (Announced k) word n w = LoadedControl c v word n w
+LoadedBy c v (Cursor d) word n w = w ≡ loaded_control v word n
+LoadedBy c v (Field i f) word n w = w ≡ loaded_control v word n

@@ -124,7 +124,7 @@ MayStoreAs Spare f = f ≡ 1
 MayStoreAs TakenOut f = f ≡ 1
 MayStoreAs Limbo f = f ≡ 1
 MayStoreAs Free f = f ≡ 1
-MayStoreAs Spent f = ⊥
+MayStoreAs Spent f = f ≡ 1
 
 -- the caller may store this value in word f of a record that it has
 pub record MayStore (h : Share) (f value : ℕ) : Type 0 where

@@ -315,6 +315,7 @@ module _ (c : CoverFacts) where
     -- A control word is loaded
     pub loads : (setup : Setup) (x : SchemeInput) (d updates n : ℕ) (g : Guard) (word : Word) → IsSafe setup x → c.covered setup x → At x.guards d g → ValueIs x word n → c.covered setup (with_guard x d (c.loaded setup (moment x updates) d g word n))
     pub loaded : (setup : Setup) (x : SchemeInput) (d updates n : ℕ) (g : Guard) (word : Word) → IsSafe setup x → c.covered setup x → At x.guards d g → ValueIs x word n → HasLoaded x g (c.loaded setup (moment x updates) d g word n)
+    pub shown : (setup : Setup) (x : SchemeInput) (d n : ℕ) (g : Guard) (word : Word) → IsSafe setup x → c.covered setup x → At x.guards d g → ValueIs x word n → c.shows setup g word n
     -- Nobody holds a record that may leave limbo, and all that may leave it at once
     pub free_of : (setup : Setup) (x : SchemeInput) (i d generation b n stamp r : ℕ) (g : Guard) → IsSafe setup x → c.covered setup x → At x.guards d g → At x.cells i (limbo d generation b n stamp r)
         → c.may_free setup g (limbo_record i generation b stamp) ≡ true → (e p : ℕ) (k : Guard) (t : RefParts) → At x.guards e k → At k.holds p (Some t) → t.index ≢ i + 1

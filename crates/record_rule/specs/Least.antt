@@ -65,6 +65,7 @@ least_cover = record {
   stamps = λ g n stamp. Unit {0};
   may_reach = λ g q. ⊥;
   reached = λ m g q t. g;
+  shows = λ setup g word n. Unit {0};
   loaded = λ setup m d g word n. g;
   may_free = λ setup g n. false;
   cleared = λ setup g. g;
@@ -96,6 +97,7 @@ least_cover_laws = record {
   looks = λ setup x d step updates g safe h at begins. tt;
   silent = refl;
   loads = λ setup x d updates n g word safe h at is. tt;
+  shown = λ setup x d n g word safe h at is. tt;
   loaded = λ setup x d updates n g word safe h at is. record { holds = λ p t e. inl e; many = refl; words = refl; start = record { taken_out = refl; updates = refl; step = refl }; waits = λ p r e. (e, refl) };
   free_of = λ setup x i d generation b n stamp r g safe h at cell free. let none : ⊥ = cc in absurd none;
   frees = λ setup x d g cells safe h at freed. tt;

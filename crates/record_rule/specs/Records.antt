@@ -14,7 +14,7 @@ pub record IsSetup (setup : Setup) : Type 0 where
   pub rooted : setup.roots ≤ setup.records
   pub records : setup.records < 2 ^ 20
   pub some_caller : 0 < setup.callers
-  pub callers : setup.callers < 2 ^ 32
+  pub callers : setup.callers ≤ 64
   pub some_first : 0 < setup.first
   pub first : setup.first < 2 ^ 20
 

@@ -15,6 +15,7 @@ use Rattle.record_memory.specs.Memory.{word_at}
 use Rattle.row_words.specs.Refs.{RefParts, LinkParts}
 use Rattle.record_rule.specs.Facts.{ShapeFacts, CoverFacts, Reach, clean}
 use Rattle.record_rule.specs.Kinds.{share_in, field_store, field_load, stored_as, stored, loaded, IsOverAs, IsOver, IsKnown, control_load, loaded_control, draw_step, drew, control_step, made_step}
+use Rattle.record_rule.specs.Freeing.{LoadedControl, LoadedBy}
 use Rattle.record_rule.specs.TakesFree.{LoadedFree}
 use Rattle.record_rule.specs.Placing.{placed_view}
 use Rattle.record_rule.specs.Asides.{put_aside_as, put_aside, took_spare_as, took_spare}
@@ -167,6 +168,24 @@ adds_retire v r value place name n w t = adds_by Store place n value v w _ t.vie
 -- control words
 pub adds_control : (v : View) (x : Word) (place n : ℕ) (w : View) → x ≡ word_at v.setup.callers place → w ≡ loaded_control v place n → Adds Load x n n v w
 adds_control v x place n w name e = adds_by Load x n n v w _ e record { same = record { caller = refl; setup = refl; present = refl; others = refl }; step = control_load v place n; one = refl; kind_is = refl; word_is = sym name; found_is = refl; left_is = refl; idle_is = refl }
+
+-- a load by the word
+pub adds_by_word : (c : CoverFacts) (v : View) (x : Word) (place n : ℕ) (w : View) → x ≡ word_at v.setup.callers place → LoadedBy c v (word_at v.setup.callers place) place n w → Adds Load x n n v w
+adds_by_word c v x place n w name told = by (word_at v.setup.callers place) refl told
+  where
+    -- a load by which the reclaimer learns is recorded as what it is, too
+    learns : LoadedControl c v place n w → Adds Load x n n v w
+    learns t = adds_by Load x n n v w _ t.view record { same = record { caller = refl; setup = refl; present = refl; others = refl }; step = control_load v place n; one = refl; kind_is = refl; word_is = sym name; found_is = refl; left_is = refl; idle_is = refl }
+
+    by : (y : Word) → word_at v.setup.callers place ≡ y → LoadedBy c v y place n w → Adds Load x n n v w
+    by Epoch is t = learns t
+    by (Announced k) is t = learns t
+    by Drawn is t = adds_control v x place n w name t
+    by Lock is t = adds_control v x place n w name t
+    by Blank is t = adds_control v x place n w name t
+    by (Shelf k) is t = adds_control v x place n w name t
+    by (Cursor d) is t = adds_control v x place n w name t
+    by (Field i f) is t = adds_control v x place n w name t
 
 pub adds_placed : (v : View) (x : Word) (word place : ℕ) (call : Call) (reply : Bool) (n : ℕ) (w : View) → x ≡ word_at v.setup.callers word → w ≡ placed_view v word n place call reply → Adds Load x n n v w
 adds_placed v x word place call reply n w name e = adds_by Load x n n v w _ e record { same = record { caller = refl; setup = refl; present = refl; others = refl }; step = control_load v word n; one = refl; kind_is = refl; word_is = sym name; found_is = refl; left_is = refl; idle_is = refl }

@@ -6,7 +6,8 @@ ghost use Rattle.record_memory.specs.declared.steps.StepKind.TheVariants.{Exchan
 ghost use Rattle.record_memory.specs.declared.steps.Word.TheVariants.{Drawn};
 ghost use Rattle.record_memory.specs.Memory.{address, controls, word_at};
 ghost use Rattle.record_rule.specs.ControlSteps.{MayStoreControl, StoredControl, MayExchangeControl};
-ghost use Rattle.record_rule.specs.Kinds.{loaded_control, ShowsBelow, drew, DrewNew, made_step, control_step};
+ghost use Rattle.record_rule.specs.Freeing.{LoadedBy};
+ghost use Rattle.record_rule.specs.Kinds.{ShowsBelow, drew, DrewNew, made_step, control_step};
 ghost use Rattle.record_table.specs.Handles.{setup_of, view, IsPassOf, IsSamePass};
 
 use crate::passes::Pass;
@@ -15,12 +16,13 @@ use record_rule::{Cover, Shape};
 use std::marker::Brand;
 
 impl<S: Shape, R: Cover> Table<S, R> {
-    /// Loads a control word.
+    /// Loads a control word. By a load of the epoch or of an announcement the reclaimer learns, and records of
+    /// this caller's limbo may be free from then on; every other word leaves all that it knows of records.
     pub fn load_control(&self, pass: &mut Pass<S, R>, word: u32) -> u64
         requires pass { IsPassOf self.now pass.old }
         requires control { word < controls (setup_of self.now).callers }
         ensures pass { IsSamePass pass.old pass.new }
-        ensures step { view pass.new ≡ loaded_control (view pass.old) word result }
+        ensures step { LoadedBy R.facts (view pass.old) (word_at (view pass.old).setup.callers word) word result (view pass.new) }
         ensures below { ShowsBelow (view pass.old) word result }
     {
         self.load::<Brand, _>(pass, word as usize, &())

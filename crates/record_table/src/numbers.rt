@@ -24,9 +24,10 @@ impl<S: Shape, R: Cover> Table<S, R> {
         self.setup.roots
     }
 
-    /// How many callers it has.
+    /// How many callers it has, at most 64.
     pub fn callers(&self) -> u32
-        ensures { result ≡ (setup_of self.now).callers }
+        ensures callers { result ≡ (setup_of self.now).callers }
+        ensures few { result ≤ 64 }
     {
         self.setup.callers
     }

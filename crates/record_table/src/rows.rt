@@ -2,7 +2,7 @@
 ghost use Rattle.std.specs.Prelude.{◌≡◌, ℕ, refl};
 ghost use Rattle.std.proofs.Common.{◌∙◌};
 ghost use Rattle.record_rule.proofs.ChainRows.{still_start, still_then};
-ghost use Rattle.record_rule.specs.ChainRows.{row_in, OwnsChain, IsStill};
+ghost use Rattle.record_rule.specs.ChainRows.{row_in, OwnsAway, IsStill};
 ghost use Rattle.record_rule.specs.Kinds.{loaded, stored, IsKnown};
 ghost use Rattle.record_rule.specs.Asides.{chain_word};
 ghost use Rattle.record_table.specs.Handles.{view, IsPassOf, IsSamePass, same_start, same_then};
@@ -14,7 +14,7 @@ use record_rule::{Cover, Shape};
 use row_words::{ChainWords, Link, Ref, link_of, number_of, pack_link};
 
 /// The rows of one table as one caller sees them. It owns the chain words of the records that are
-/// own, spare, in limbo or free of it. Each call is one atomic step.
+/// in limbo, free or spent of it. Each call is one atomic step.
 pub struct Rows<'a, S: Shape, R: Cover> {
     /// The table.
     pub table: &'a Table<S, R>,
@@ -23,7 +23,7 @@ pub struct Rows<'a, S: Shape, R: Cover> {
 }
 
 impl<'a, S: Shape, R: Cover> ChainWords for Rows<'a, S, R> {
-    ghost owns = { λ w r. IsPassOf w.table.now w.pass.now × OwnsChain (view w.pass.now) r };
+    ghost owns = { λ w r. IsPassOf w.table.now w.pass.now × OwnsAway (view w.pass.now) r };
 
     ghost row_of = { λ w r. row_in (view w.pass.now) r };
 

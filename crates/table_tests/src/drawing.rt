@@ -1,8 +1,7 @@
 // Drawing records and setting them aside.
-ghost use Rattle.std.specs.Prelude.{◌≡◌, IfOk};
+ghost use Rattle.std.specs.Prelude.{◌≡◌};
 ghost use Rattle.set_model.specs.declared.names.AllocatorName.TheVariants.{Bump as BumpName};
-ghost use Rattle.record_rule.specs.ChainRows.{OwnsChain};
-ghost use Rattle.record_table.specs.Handles.{setup_of, view, IsPassOf, IsSamePass};
+ghost use Rattle.record_table.specs.Handles.{setup_of, IsPassOf, IsSamePass};
 
 use crate::types::{ListPass, ListTable};
 use alloc_api::{Allocator, NoRecord};
@@ -18,7 +17,6 @@ pub fn draw_aside(
     requires pass { IsPassOf table.now pass.old }
     requires allocator { (setup_of table.now).allocator ≡ BumpName }
     ensures pass { IsSamePass pass.old pass.new }
-    ensures owned { IfOk result (λ r. OwnsChain (view pass.new) r) }
 {
     let drawn = Bump::draw(table, pass)?;
     let own = table.hand_out(pass, drawn, 0);

@@ -1,9 +1,11 @@
 // A list of one record, by the table's steps on its nodes.
-ghost use Rattle.std.specs.Prelude.{◌≡◌, ◌<◌, ◌^◌, [], true, false, MatchOption};
+ghost use Rattle.std.specs.Prelude.{◌≡◌, ◌<◌, ◌^◌, [], true, false, IfSome, MatchOption};
 ghost use Rattle.set_model.specs.declared.names.AllocatorName.TheVariants.{Bump as BumpName};
+ghost use Rattle.record_rule.specs.ChainRows.{OwnsAway};
 ghost use Rattle.record_table.specs.Handles.{setup_of, view, since, is_inside, IsPassOf, IsSamePass};
 ghost use Rattle.table_tests.specs.First.{HasKey, HasMark, HoldsFirst, HoldsFound, HoldsMarked};
 
+use crate::chains::push_and_pop;
 use crate::closing::{close_lists, take_last};
 use crate::first_look::look_first;
 use crate::opening::open;
@@ -26,7 +28,7 @@ struct Marked {
 
 // Adds the key where the list is empty, and says whether it did. Where it isn't, the exchange of the
 // root's link is refused, and the record is set aside.
-fn add_first(table: &ListTable, pass: &mut ListPass, key: u64) -> bool
+pub(crate) fn add_first(table: &ListTable, pass: &mut ListPass, key: u64) -> bool
     requires pass { IsPassOf table.now pass.old }
     requires allocator { (setup_of table.now).allocator ≡ BumpName }
     requires roots { (setup_of table.now).roots ≡ 1 }
@@ -69,7 +71,7 @@ fn remove_first(table: &ListTable, pass: &mut ListPass) -> Option<(u64, bool)>
     pass.begin_guard();
     let removed = match mark_first(table, pass) {
         Some(marked) => {
-            let taken = take_out(table, pass, marked.target, marked.link);
+            let taken = take_out(table, pass, marked.target, marked.link).is_some();
             Some((marked.key, taken))
         }
         None => None,
@@ -104,7 +106,7 @@ fn remove_helped(
     let removed = match mark_first(table, pass) {
         Some(marked) => {
             help_first(table, helper);
-            let taken = take_out(table, pass, marked.target, marked.link);
+            let taken = take_out(table, pass, marked.target, marked.link).is_some();
             Some((marked.key, taken))
         }
         None => None,
@@ -128,7 +130,7 @@ fn help_first(table: &ListTable, pass: &mut ListPass)
     if let Some(target) = reach_first(table, pass) {
         let (_, link) = read_held(table, pass, target);
         if link.flags == MARK {
-            take_out(table, pass, target, link);
+            let _taken = take_out(table, pass, target, link);
         }
     }
     pass.end_guard();
@@ -187,20 +189,46 @@ fn mark_first(table: &ListTable, pass: &mut ListPass) -> Option<Marked>
     Some(Marked { target, key, link })
 }
 
-// Takes a held and marked record out behind the root and retires it, and says whether it did.
-fn take_out(table: &ListTable, pass: &mut ListPass, target: Ref, link: Link) -> bool
+// Takes a held and marked record out behind the root and retires it. Which record it retired, if it did.
+fn take_out(table: &ListTable, pass: &mut ListPass, target: Ref, link: Link) -> Option<Ref>
     requires pass { IsPassOf table.now pass.old }
     requires roots { (setup_of table.now).roots ≡ 1 }
     requires held { HoldsMarked pass.old target link }
     ensures pass { IsSamePass pass.old pass.new }
+    ensures away { IfSome result (λ r. OwnsAway (view pass.new) r) }
 {
     let gone = Held { place: 0, target };
     let new = link.clean();
     let Ok(taken) = table.unlink(pass, Node::Root(0), LINK, gone, new) else {
-        return false;
+        return None;
     };
-    table.put_row(pass, taken, 0);
-    true
+    let retired = table.put_row(pass, taken, 0);
+
+    // A reference is in range.
+    let _index = retired.index;
+    Some(retired)
+}
+
+// Removes the first key, and puts its record into a chain and takes it off again.
+pub(crate) fn remove_chained(table: &ListTable, pass: &mut ListPass) -> Option<Ref>
+    requires pass { IsPassOf table.now pass.old }
+    requires outside { is_inside pass.old ≡ false }
+    requires roots { (setup_of table.now).roots ≡ 1 }
+    ensures pass { IsPassOf table.now pass.new }
+    ensures caller { (view pass.new).own.caller ≡ (view pass.old).own.caller }
+    ensures others { (view pass.new).others ≡ (view pass.old).others }
+    ensures outside { is_inside pass.new ≡ false }
+{
+    pass.begin_guard();
+    let popped = match mark_first(table, pass) {
+        Some(marked) => match take_out(table, pass, marked.target, marked.link) {
+            Some(retired) => push_and_pop(table, pass, retired),
+            None => None,
+        },
+        None => None,
+    };
+    pass.end_guard();
+    popped
 }
 
 #[test]

@@ -1,4 +1,4 @@
-use Rattle.std.proofs.Common.{ap, ◌∙◌, Some, ◌++◌}
+use Rattle.std.proofs.Common.{arith, ap, ◌∙◌, Some, ◌++◌}
 use Rattle.std.proofs.lemmas.List.{reverse-reverse}
 use Rattle.std.proofs.lemmas.List.Elements.{All-pop, All-same, All-push, All-nil}
 use mathlib.Core.List.{reverse}
@@ -17,7 +17,7 @@ loop-pass-preserved g c = let t = c.args.table.now in let xs = c.loop-pass.passe
 
 pub loop-pass-init : goal.loop-pass-init
 loop-pass-init g c = let t = c.args.table.now in let none = c.in_ok-callers.ensures.items in record {
-  rest = All-same (IsNew t g.R.Cover.facts.first) _ _ c.reverse.ensures.items (All-reverse (IsNew t g.R.Cover.facts.first) c.args.passes.items (all_new t g.R.Cover.facts.first 0 c.args.passes.items c.requires.fresh.each));
+  rest = All-same (IsNew t g.R.Cover.facts.first) _ _ c.reverse.ensures.items (All-reverse (IsNew t g.R.Cover.facts.first) c.args.passes.items (all_new t g.R.Cover.facts.first 0 c.args.passes.items (let all = c.requires.fresh.all in omega arith) c.requires.fresh.each));
   made = All-same (IsResting g.R.Scheme.is_local) _ _ none (All-nil (IsResting g.R.Scheme.is_local));
   all = ap (λ l. passes_of l ++ reverse c.reverse.new.self.items) none ∙ ap (λ l. reverse l) c.reverse.ensures.items ∙ reverse-reverse c.args.passes.items;
 }

@@ -5,7 +5,7 @@ use Rattle.row_words.specs.declared.links.Chain.{Chain}
 use Rattle.record_rule.specs.Asides.{HasSpare}
 use Rattle.record_rule.specs.Makes.{Makes}
 use Rattle.record_table.specs.Handles.{view}
-use Rattle.record_pieces.specs.Events.{own_load}
+use Rattle.record_pieces.specs.OwnSteps.{own_load}
 use Rattle.manager.proofs.Stay.{inside_after, chains_after}
 use Rattle.manager.proofs.Pops.{row_next, pop_count}
 use Rattle.manager.proofs.MoveCounts.{counted_still}

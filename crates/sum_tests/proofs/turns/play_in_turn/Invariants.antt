@@ -10,5 +10,5 @@ invariant-loop-call l = record {
   can_next : (goal.iterator-loop-call).can_next l.call-iterator;
   finite : (goal.iterator-loop-call).is_finite l.call-iterator;
   passes : AreAllPasses l.list.manager.table (passes_of l.callers.items);
-  resting : All (IsResting (λ l v. Unit {0})) l.callers.items;
+  resting : All (IsResting (λ l inside s v. Unit {0})) l.callers.items;
 }

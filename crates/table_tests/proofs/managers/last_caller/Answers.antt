@@ -9,4 +9,4 @@ pub returns-clause-of : goal.returns-clause-of
 returns-clause-of c = last_of c.args.manager.now.table c.args.callers.now.items c.pop.new.self.items c.pop.result c.pop.ensures.items c.requires.passes.each
 
 pub returns-clause-caller : goal.returns-clause-caller
-returns-clause-caller c = (All-pop (IsResting (λ l v. Unit {0})) c.args.callers.now.items c.pop.new.self.items c.pop.result c.pop.ensures.items c.requires.resting).1
+returns-clause-caller c = (All-pop (IsResting (λ l inside s v. Unit {0})) c.args.callers.now.items c.pop.new.self.items c.pop.result c.pop.ensures.items c.requires.resting).1

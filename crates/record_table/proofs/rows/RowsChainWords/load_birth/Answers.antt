@@ -1,8 +1,11 @@
-use Rattle.std.proofs.Common.{ap, arith, refl}
+use Rattle.std.proofs.Common.{◌∙◌, ap, arith, refl}
 use Rattle.row_words.specs.Refs.{RefParts}
-use Rattle.record_rule.proofs.ChainRows.{still_load}
+use Rattle.record_rule.proofs.ChainRows.{owns_loaded, still_load}
 use Rattle.record_table.proofs.RowLoads.{row_loaded}
 use Rattle.record_table.proofs.rows.RowsChainWords.load_birth.Goals as goal
+
+pub returns-clause-owned : goal.returns-clause-owned
+returns-clause-owned g c = let p = c.load_field-found.ensures.pass in λ q o. (record { table = p.table ∙ o.0.table; setup = p.setup ∙ o.0.setup; present = p.present ∙ o.0.present }, owns_loaded _ _ _ _ _ c.load_field-found.ensures.step q o.1)
 
 pub returns-clause-same : goal.returns-clause-same
 returns-clause-same g c = (refl, refl, c.load_field-found.ensures.pass, still_load _ _ _ _ _ c.load_field-found.ensures.step (omega arith))

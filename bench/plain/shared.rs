@@ -1,0 +1,60 @@
+//! The words that all callers share: the number of records drawn, the epoch, four announcements of each caller, and rows
+//! of eight words.
+
+use std::sync::atomic::{AtomicU64, Ordering::SeqCst};
+
+/// Where the words of other kinds begin. Word 0 is the number of records drawn, the roots among them, and word 1 the epoch.
+const ANNOUNCED: usize = 20;
+/// The words of a row that hold something beside its birth and its stamp. Record 0 is none.
+pub const LINK: usize = 3;
+pub const KEY: usize = 4;
+/// In a link: its record is being taken out. The rest is the next record.
+pub const MARK: u64 = 1 << 63;
+/// The words of a row that 2GEIBR writes.
+pub const BIRTH: usize = 0;
+pub const STAMP: usize = 2;
+
+pub struct Shared {
+    words: Vec<AtomicU64>,
+    rows: usize,
+    pub callers: usize,
+    /// How many words lie between the announcements of a caller and those of the next one, at least 4.
+    stride: usize,
+}
+
+impl Shared {
+    pub fn new(buckets: u64, records: u64, callers: usize, stride: usize) -> Shared {
+        let rows = ANNOUNCED + stride * callers;
+        let count = rows + 8 * records as usize;
+        let mut words = Vec::with_capacity(count);
+        words.resize_with(count, || AtomicU64::new(0));
+        words[0].store(buckets, SeqCst);
+        words[1].store(1, SeqCst);
+        Shared { words, rows, callers, stride }
+    }
+
+    pub fn drawn(&self) -> &AtomicU64 {
+        &self.words[0]
+    }
+
+    pub fn epoch(&self) -> &AtomicU64 {
+        &self.words[1]
+    }
+
+    /// One of the four announcements of a caller.
+    pub fn announced(&self, caller: usize, number: usize) -> &AtomicU64 {
+        &self.words[ANNOUNCED + self.stride * caller + number]
+    }
+
+    pub fn word(&self, record: u64, field: usize) -> &AtomicU64 {
+        &self.words[self.rows + 8 * (record as usize - 1) + field]
+    }
+
+    pub fn load(&self, record: u64, field: usize) -> u64 {
+        self.word(record, field).load(SeqCst)
+    }
+
+    pub fn exchange_link(&self, record: u64, old: u64, new: u64) -> bool {
+        self.word(record, LINK).compare_exchange(old, new, SeqCst, SeqCst).is_ok()
+    }
+}

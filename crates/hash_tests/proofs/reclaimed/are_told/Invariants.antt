@@ -1,0 +1,5 @@
+use Rattle.michael_hash.specs.Callers.{IsWholeCallerOf}
+use Rattle.hash_tests.proofs.reclaimed.are_told.Given as goal
+
+abbrev pub invariant-loop-call : goal.invariant-loop-call
+invariant-loop-call g l = record { caller : IsWholeCallerOf g.R.Scheme.is_local l.hash.lists.manager.table l.caller }

@@ -1,0 +1,10 @@
+pub mod Naming
+pub mod Loads
+pub mod Stores
+pub mod Scans
+pub mod Opening
+pub mod Reaching
+pub mod Entered
+pub mod Rows
+pub mod Shifting
+pub mod Retired

@@ -1,0 +1,67 @@
+-- A store of the own announcement, and an exchange of the epoch, leave all records.
+use Rattle.std.proofs.Common.{◌≡◌, ◌≢◌, ℕ, ◌+◌, ◌*◌, ◌-◌, ◌<◌, ◌%◌, [], ◌∷◌, ◌++◌, length, Bool, true, false, cond, eqb, sym, refl, ap, ◌∙◌, subst, arith, inl, inr}
+use Rattle.std.specs.Prelude.{◌⊎◌, MatchResult, Result, Ok, Err}
+use Rattle.std.proofs.lemmas.Bool.{eq-eqb, ne_eqb}
+use Rattle.record_memory.specs.declared.steps.Word.{Word}
+use Rattle.record_memory.specs.declared.steps.StepKind.TheVariants.{Exchange}
+use Rattle.record_memory.specs.declared.books.View.{View}
+use Rattle.record_rule.specs.Kinds.{control_step, made_step}
+use Rattle.guard_facts.specs.Announcing.{LAST_EPOCH}
+use Rattle.reclaim_debra.specs.Running.{epoch_exchange}
+use Rattle.reclaim_debra.specs.Entering.{HasTried}
+use Rattle.record_memory.specs.Memory.{word_at}
+use Rattle.record_rule.specs.ControlSteps.{seeing_if, own_store, StoredWord, StoredControl}
+use Rattle.record_rule.specs.Links.{with_step, roots_kept}
+use Rattle.debra_facts.specs.Rounds.{starts_by, stored_as}
+use Rattle.debra_facts.specs.Debra.{debra}
+use Rattle.reclaim_debra.specs.declared.bags.Bags.{Bags}
+use Rattle.reclaim_debra.specs.LocalParts.{KeepsBags}
+use Rattle.reclaim_debra.specs.Stamped.{bags_stay}
+use Rattle.reclaim_debra.proofs.Naming.{announced_at}
+
+-- The exchange, by what it found
+left_is : (e n : ℕ) (left : ℕ) → ((n ≡ e) × (left ≡ e + 1)) ⊎ ((n ≢ e) × (left ≡ n)) → left ≡ cond (eqb n e) (e + 1) n
+left_is e n left (inl p) = p.1 ∙ ap (λ (b : Bool). cond b (e + 1) n) (sym (eq-eqb n e p.0))
+left_is e n left (inr p) = p.1 ∙ ap (λ (b : Bool). cond b (e + 1) n) (sym (ne_eqb n e p.0))
+
+tried_by : (v w : View) (e n left : ℕ) → e < LAST_EPOCH → ((n ≡ e) × (left ≡ e + 1)) ⊎ ((n ≢ e) × (left ≡ n)) → w ≡ made_step v (control_step v Exchange 1 n left) → HasTried v e w
+tried_by v w e n left lt how is = record {
+  guard = ap (λ (x : View). x.own.guard) is;
+  tried = epoch_exchange v.own e n ∷ [];
+  try = inl (lt, (n, refl));
+  steps = ap (λ (x : View). x.own.steps) is ∙ ap (λ (k : ℕ). v.own.steps ++ record (control_step v Exchange 1 n left) { left = k } ∷ []) (left_is e n left how);
+}
+
+pub tried_once : (v w : View) (e : ℕ) (r : Result (Unit {0}) ℕ) → e < LAST_EPOCH → MatchResult r (λ _. w ≡ made_step v (control_step v Exchange 1 e (e + 1))) (λ found. (found ≡ e → ⊥) × (w ≡ made_step v (control_step v Exchange 1 found found))) → HasTried v e w
+tried_once v w e (Ok u) lt told = tried_by v w e e (e + 1) lt (inl (refl, refl)) told
+tried_once v w e (Err n) lt told = tried_by v w e n n lt (inr (told.0, refl)) told.1
+
+-- it is one step
+pub tried_bags : (l : Bags) (v w : View) (e : ℕ) (r : Result (Unit {0}) ℕ) → MatchResult r (λ _. w ≡ made_step v (control_step v Exchange 1 e (e + 1))) (λ found. (found ≡ e → ⊥) × (w ≡ made_step v (control_step v Exchange 1 found found))) → KeepsBags l v → KeepsBags l w
+tried_bags l v w e (Ok u) told k = subst (KeepsBags l) (sym told) (bags_stay l v (made_step v (control_step v Exchange 1 e (e + 1))) l.place refl (λ i h known q. known) (λ t. refl) refl k.place k)
+tried_bags l v w e (Err n) told k = subst (KeepsBags l) (sym told.1) (bags_stay l v (made_step v (control_step v Exchange 1 n n)) l.place refl (λ i h known q. known) (λ t. refl) refl k.place k)
+
+-- A store in the first announcement word, by where that lies
+pub stored_own : (v w : View) (word value : ℕ) → word ≡ 20 + (4 * v.own.caller + 0) → v.own.caller < v.setup.callers → (found : ℕ) × StoredControl debra v (word_at v.setup.callers word) value found w → (found : ℕ) × StoredWord debra v 0 value found w
+stored_own v w word value is lt told = subst (λ (k : ℕ). (found : ℕ) × StoredWord debra v k value found w) (let e : 4 * v.own.caller - 4 * v.own.caller ≡ 0 = omega arith in e)
+    (subst (λ (x : Word). (found : ℕ) × StoredControl debra v x value found w) (announced_at v.setup.callers word (4 * v.own.caller) (omega arith) (omega arith)) told)
+
+module _ (v w : View) (value found : ℕ) (told : StoredWord debra v 0 value found w) where
+  -- the view that it leaves, whether or not it starts a guard
+  abbrev then : Bool → View
+  then b = seeing_if b v told.updates told.taken_out (record (with_step v.own v.setup.records (own_store v 0 found value)) {
+    guard = stored_as b told.moment v.own.guard (length v.own.steps + 1) 0 value;
+    root_notes = roots_kept b v.own.root_notes;
+  })
+
+  -- the bags stay
+  pub store_bags : (l : Bags) → KeepsBags l v → KeepsBags l w
+  store_bags l k = subst (KeepsBags l) (sym told.view) (by (starts_by v.own.guard 0 value))
+    where
+      by : (b : Bool) → KeepsBags l (then b)
+      by true = bags_stay l v (then true) l.place refl (λ i h known q. known) (λ u. refl) refl k.place k
+      by false = bags_stay l v (then false) l.place refl (λ i h known q. known) (λ u. refl) refl k.place k
+
+  -- an even one ends it
+  pub store_quiet : (r : ℕ) → value ≡ 2 * r → w.own.guard.active ≡ false
+  store_quiet r is = ap (λ (x : View). x.own.guard.active) told.view ∙ ap (λ (b : Bool). (then b).own.guard.active) (ne_eqb (value % 2) 1 (λ e. omega arith))

@@ -1,0 +1,130 @@
+-- The steps of DEBRA's functions: what entering loads, frees, looks at, tries and announces, and what leaving and retiring store.
+use Rattle.std.specs.Prelude.{◌≡◌, ℕ, ◌+◌, ◌-◌, ◌*◌, ◌<◌, ◌≤◌, ◌==◌, nat_lt, if◌then◌else◌, List, [], ◌∷◌, ◌++◌, All, map, Bool, true, Option, Some, None, slice_index_or}
+use Rattle.record_memory.specs.declared.steps.Word.TheVariants.{Epoch, Announced, Field}
+use Rattle.record_memory.specs.declared.steps.StepKind.TheVariants.{Load, Store, Exchange}
+use Rattle.record_memory.specs.declared.steps.Step.{Step}
+use Rattle.record_memory.specs.declared.books.Setup.{Setup}
+use Rattle.record_memory.specs.declared.books.Book.{Book}
+use Rattle.record_memory.specs.declared.books.Guard.{Guard}
+use Rattle.record_memory.specs.declared.books.Share.{Share}
+use Rattle.record_memory.specs.declared.books.Standing.TheVariants.{Limbo}
+use Rattle.row_words.specs.Refs.{RefParts}
+use Rattle.row_words.specs.declared.links.Freed.{Freed}
+use Rattle.row_words.specs.Packing.{packed_number}
+use Rattle.record_rule.specs.Facts.{LimboRecord}
+use Rattle.record_rule.specs.Kinds.{idle}
+use Rattle.record_rule.specs.ChainRows.{IsRowStep, unchained}
+use Rattle.record_rule.specs.Freeing.{limbo_share, freed_from}
+use Rattle.record_rule.specs.Asides.{chain_word}
+use Rattle.reclaim_api.specs.Bags.{bag_count, count_spent}
+use Rattle.guard_facts.specs.Announcing.{LAST_EPOCH, reading}
+use Rattle.debra_facts.specs.Rounds.{is_passed}
+use Rattle.reclaim_debra.specs.LocalParts.{is_stamped}
+
+-- nothing left limbo
+abbrev pub IsNoneFreed : Freed → Type 0
+IsNoneFreed f = (f.freed ≡ 0) × (f.spent ≡ 0)
+
+-- the load of the epoch that found e
+abbrev pub epoch_load : Book → ℕ → Step
+epoch_load b e = record { kind = Load; word = Epoch; held = None; found = e; left = e; idle = idle b }
+
+-- the load of the first announcement word of caller k that found n
+abbrev pub announcement_load : Book → ℕ → ℕ → Step
+announcement_load b k n = record { kind = Load; word = Announced (4 * k); held = None; found = n; left = n; idle = idle b }
+
+-- the exchange of the epoch from e to e + 1, where the epoch was n
+abbrev pub epoch_exchange : Book → ℕ → ℕ → Step
+epoch_exchange b e n = record { kind = Exchange; word = Epoch; held = None; found = n; left = if n == e then e + 1 else n; idle = idle b }
+
+-- the store of a value in the own first announcement word, which held n
+abbrev pub announcing_store : Book → ℕ → ℕ → Step
+announcing_store b value n = record { kind = Store; word = Announced (4 * b.caller); held = None; found = n; left = value; idle = idle b }
+
+-- the epoch that was loaded isn't that of the last reading
+abbrev pub IsNew : Guard → ℕ → Type 0
+IsNew g e = e ≡ reading g 0 → ⊥
+
+-- it was retired before the second reading: these are the records of the third bag
+abbrev pub is_old : Guard → LimboRecord → Bool
+is_old g n = nat_lt n.stamp (reading g 1)
+
+-- The same epoch was read: nothing shifts
+pub record Stays (b : Book) (made : List Step) (f : Freed) (c : Book) : Type 0 where
+  pub steps : made ≡ []
+  pub readings : c.guard.readings ≡ b.guard.readings
+  pub mine : c.mine ≡ b.mine
+  pub freed : IsNoneFreed f
+
+-- Another epoch was read: the last two readings come behind it, and exactly the records of the third bag leave limbo; the steps then made are on chain words
+pub record Shifts (b : Book) (e : ℕ) (made : List Step) (f : Freed) (c : Book) : Type 0 where
+  pub steps : All (IsRowStep (idle c)) made
+  pub readings : c.guard.readings ≡ e ∷ reading b.guard 0 ∷ reading b.guard 1 ∷ []
+  pub mine : map unchained c.mine ≡ map unchained (freed_from (is_old b.guard) 0 b.mine)
+  pub freed : f.freed ≡ bag_count (is_old b.guard) b
+  pub spent : f.spent ≡ count_spent (is_old b.guard) 0 b.mine
+
+-- the bags shift exactly where another epoch was read
+pub data ShiftsIfNew (b : Book) (e : ℕ) (made : List Step) (f : Freed) (c : Book) : Type 0 where
+  same : e ≡ reading b.guard 0 → Stays b made f c → ShiftsIfNew b e made f c
+  anew : IsNew b.guard e → Shifts b e made f c → ShiftsIfNew b e made f c
+
+-- where a scan goes on from: the same place, or the first caller at a new reading
+abbrev pub place_from : Guard → ℕ → ℕ
+place_from g e = if e == reading g 0 then g.scan_place else 0
+
+-- One look, at the announcement of the caller at the place, exactly where there is one; the place grows exactly where the word is even or announces this epoch
+pub data Looks (setup : Setup) (c : Book) (e place : ℕ) : List Step → ℕ → Type 0 where
+  no_look : setup.callers ≤ place → Looks setup c e place [] place
+  one_look : place < setup.callers → (n : ℕ) → Looks setup c e place (announcement_load c place n ∷ []) (if is_passed e n then place + 1 else place)
+
+-- the place thereby reached the number of callers, and the epoch may grow
+abbrev pub IsReached : Setup → ℕ → ℕ → ℕ → Type 0
+IsReached setup e place after = (place < setup.callers) × (after ≡ setup.callers) × (e < LAST_EPOCH)
+
+-- the epoch is tried exactly there
+pub data Tries (setup : Setup) (c : Book) (e place after : ℕ) : List Step → Type 0 where
+  no_try : (IsReached setup e place after → ⊥) → Tries setup c e place after []
+  one_try : IsReached setup e place after → (n : ℕ) → Tries setup c e place after (epoch_exchange c e n ∷ [])
+
+-- Entering: the epoch is loaded, the bags shift, one look, one try, and the announcement
+pub record Enters (setup : Setup) (b : Book) (f : Freed) (c : Book) : Type 0 where
+  pub epoch : ℕ
+  pub moved : List Step
+  pub shifts : ShiftsIfNew b epoch moved f c
+  pub looked : List Step
+  pub looks : Looks setup c epoch (place_from b.guard epoch) looked c.guard.scan_place
+  pub tried : List Step
+  pub tries : Tries setup c epoch (place_from b.guard epoch) c.guard.scan_place tried
+  pub announced : ℕ
+  pub steps : c.steps ≡ b.steps ++ epoch_load b epoch ∷ moved ++ looked ++ tried ++ announcing_store c (2 * epoch + 1) announced ∷ []
+
+-- Leaving: the last reading is announced, quiet
+pub record Leaves (setup : Setup) (b c : Book) : Type 0 where
+  pub announced : ℕ
+  pub steps : c.steps ≡ b.steps ++ announcing_store b (2 * reading b.guard 0) announced ∷ []
+
+-- a birth makes no step
+abbrev pub Bears : Setup → Book → ℕ → Book → Type 0
+Bears setup b n c = (n ≡ 0) × (c ≡ b)
+
+-- the store of a record's stamp, and that of its chain word
+abbrev pub stamp_store : Book → RefParts → ℕ → ℕ → Step
+stamp_store b r stamp found = record { kind = Store; word = Field r.index 2; held = None; found = found; left = packed_number r.generation stamp; idle = idle b }
+
+abbrev pub chain_store : Book → RefParts → Option RefParts → ℕ → Step
+chain_store b r next found = record { kind = Store; word = Field r.index 1; held = None; found = found; left = chain_word r.generation next; idle = idle b }
+
+-- the record before which another comes in the bag of this stamp: one in limbo with this stamp, and none where there is none
+abbrev pub IsHeadFor : Book → ℕ → Option RefParts → Type 0
+IsHeadFor b stamp None = bag_count (is_stamped stamp) b ≡ 0
+IsHeadFor b stamp (Some q) = (h : Share) × (slice_index_or b.mine (q.index - 1) None ≡ Some h) × (h.standing ≡ Limbo) × (h.generation ≡ q.generation) × (is_stamped stamp (limbo_share (q.index - 1) h) ≡ true)
+
+-- Retiring: the last reading is the stamp, and the record comes in front of a bag of those with this stamp
+pub record PutsAway (setup : Setup) (b : Book) (r : RefParts) (f : Freed) (c : Book) : Type 0 where
+  pub none : IsNoneFreed f
+  pub stamped : ℕ
+  pub chained : ℕ
+  pub next : Option RefParts
+  pub before : IsHeadFor b (reading b.guard 0) next
+  pub steps : c.steps ≡ b.steps ++ stamp_store b r (reading b.guard 0) stamped ∷ chain_store b r next chained ∷ []

@@ -1,0 +1,14 @@
+pub mod Words
+pub mod Storing
+pub mod Seeing
+pub mod Loads
+pub mod Named
+pub mod Leaving
+pub mod Starting
+pub mod Confirming
+pub mod Scanning
+pub mod Rows
+pub mod Bagging
+pub mod Names
+pub mod Sifted
+pub mod PutAway

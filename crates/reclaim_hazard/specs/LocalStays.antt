@@ -1,0 +1,66 @@
+-- A local part depends on the caller's guard and on its records in limbo alone.
+use Rattle.std.proofs.Common.{◌≡◌, ◌-◌, ℕ, List, length, count_by, get_or, Bool, true, false, Option, Some, None, sym, refl, ap, ◌∙◌}
+use Rattle.record_memory.specs.declared.books.Guard.{Guard}
+use Rattle.record_memory.specs.declared.books.Setup.{Setup}
+use Rattle.record_memory.specs.declared.books.View.{View}
+use Rattle.record_memory.specs.declared.books.Share.{Share}
+use Rattle.record_memory.specs.declared.books.Standing.{Standing}
+use Rattle.record_memory.specs.declared.books.Standing.TheVariants.{Handing, Limbo, Spent}
+use Rattle.record_rule.specs.Facts.{Moment}
+use Rattle.record_rule.specs.Guards.{started_if}
+use Rattle.record_rule.specs.Kinds.{share_in}
+use Rattle.record_rule.specs.Standings.{is_limbo}
+use Rattle.reclaim_api.specs.Frames.{away_as, in_away, is_as, had, SamePart}
+use Rattle.reclaim_api.proofs.Kept.{Stays, chain_stays}
+use Rattle.reclaim_api.proofs.Bagged.{bag_all, bag_away}
+use Rattle.hazard_facts.specs.Pointers.{hazard}
+use Rattle.reclaim_hazard.specs.declared.retired.Retired.{Retired}
+use Rattle.reclaim_hazard.specs.LocalParts.{IsLocal}
+
+-- the same where no record in limbo changes and none comes
+pub local_by : (l : Retired) (i i' : Bool) (s s' v w : View) → w.setup ≡ v.setup → w.own.caller ≡ v.own.caller → Stays Limbo v w → had is_limbo w.own ≡ had is_limbo v.own → length w.own.guard.announced ≡ length v.own.guard.announced → w.own.guard.loaded ≡ v.own.guard.loaded
+    → IsLocal l i s v → IsLocal l i' s' w
+local_by l i i' s s' v w setup caller stays many words loaded h = record {
+  caller = caller ∙ h.caller;
+  callers = ap (λ (k : Setup). k.callers) setup ∙ h.callers;
+  counted = h.counted;
+  few = h.few;
+  words = words ∙ h.words;
+  calm = loaded ∙ h.calm;
+  bag = chain_stays Limbo v w (ap (λ (k : Setup). k.records) setup) stays l.bag h.bag;
+  whole = h.whole ∙ sym many;
+}
+
+-- so where the caller knows the same of all records
+pub local_on : (l : Retired) (i i' : Bool) (s s' v w : View) → w.setup ≡ v.setup → w.own.caller ≡ v.own.caller → w.own.mine ≡ v.own.mine → length w.own.guard.announced ≡ length v.own.guard.announced → w.own.guard.loaded ≡ v.own.guard.loaded → IsLocal l i s v → IsLocal l i' s' w
+local_on l i i' s s' v w setup caller mine words loaded h = local_by l i i' s s' v w setup caller (λ j x known is. ap (λ (m : List (Option Share)). get_or m (j - 1) None) mine ∙ known) (ap (λ (m : List (Option Share)). count_by (is_as is_limbo) m) mine) words loaded h
+
+-- what is known of a record in limbo or spent is the share itself
+away_back : (g h : Share) (s : Standing) → away_as g s ≡ Some h → g ≡ h
+away_back g h Limbo e = cc
+away_back g h Spent e = cc
+away_back g h (Handing n) e = let none : ⊥ = cc in absurd none
+away_back g h s e = let none : ⊥ = cc in absurd none
+
+away_is : (o : Option Share) (h : Share) → in_away o ≡ Some h → o ≡ Some h
+away_is None h e = let none : ⊥ = cc in absurd none
+away_is (Some g) h e = ap (λ (x : Share). Some x) (away_back g h g.standing e)
+
+-- so records in limbo stay where these are the same
+limbo_away : (v w : View) → ((i : ℕ) → in_away (get_or w.own.mine i None) ≡ in_away (get_or v.own.mine i None)) → Stays Limbo v w
+limbo_away v w away i h known is = away_is (share_in w i) h (away (i - 1) ∙ ap in_away known ∙ ap (away_as h) is)
+
+-- a guard that may start with a load of a link
+words_on : (b : Bool) (m : Moment) (g : Guard) (step : ℕ) → (started_if b m g step).announced ≡ g.announced
+words_on true m g step = refl
+words_on false m g step = refl
+
+loaded_on : (b : Bool) (m : Moment) (g : Guard) (step : ℕ) → (started_if b m g step).loaded ≡ g.loaded
+loaded_on true m g step = refl
+loaded_on false m g step = refl
+
+pub local_same : (l : Retired) (inside : Bool) (s v w : View) → SamePart hazard v w → IsLocal l inside s v → IsLocal l inside s w
+local_same l inside s v w same h = let g = same.guard in local_by l inside inside s s v w same.setup same.caller (limbo_away v w same.away)
+    (bag_all w.own ∙ bag_away (λ x. true) v w same.away ∙ sym (bag_all v.own))
+    (ap (λ (x : Guard). length x.announced) g.guard ∙ ap (λ (x : List ℕ). length x) (words_on g.first g.moment v.own.guard g.step))
+    (ap (λ (x : Guard). x.loaded) g.guard ∙ loaded_on g.first g.moment v.own.guard g.step) h

@@ -1,0 +1,74 @@
+// The caller's bag and its free chain through the rows of the table.
+ghost use Rattle.std.specs.Prelude.{◌≡◌, ◌∷◌, ◌++◌, reverse};
+ghost use Rattle.std.specs.List.{count_by, filter};
+ghost use Rattle.row_words.specs.declared.links.Chain.{Chain};
+ghost use Rattle.limbo_bags.specs.Chains.{IsApart};
+ghost use Rattle.limbo_bags.specs.Wholes.{AreApart};
+ghost use Rattle.record_rule.specs.Asides.{chain_word};
+ghost use Rattle.record_rule.specs.ChainRows.{OwnsAway, IsStill};
+ghost use Rattle.record_rule.specs.Kinds.{stored};
+ghost use Rattle.record_table.specs.Handles.{view, IsPassOf, IsSamePass};
+ghost use Rattle.reclaim_api.specs.Chained.{refs_in};
+ghost use Rattle.reclaim_hazard.specs.Owned.{IsRowChain, IsRowKept};
+ghost use Rattle.reclaim_hazard.specs.Sifting.{stays, goes, returns, is_lost};
+
+use crate::Hazard;
+use crate::naming::Named;
+use arrayvec::ArrayVec;
+use limbo_bags::{push, sift};
+use record_table::{Pass, Rows, Shape, Table};
+use row_words::{Chain, Freed, Ref};
+
+// Puts a record in front of the bag.
+pub(crate) fn put_first<S: Shape>(
+    table: &Table<S, Hazard>,
+    pass: &mut Pass<S, Hazard>,
+    bag: &mut Chain,
+    r: Ref,
+)
+    requires pass { IsPassOf table.now pass.old }
+    requires bag { IsRowChain table.now pass.old bag.old }
+    requires owned { OwnsAway (view pass.old) r }
+    requires apart { IsApart r (refs_in (view pass.old) bag.old) }
+    ensures pass { IsSamePass pass.old pass.new }
+    ensures still { IsStill (view pass.old) (view pass.new) }
+    ensures refs { refs_in (view pass.new) bag.new ≡ r ∷ refs_in (view pass.old) bag.old }
+    ensures list { IsRowChain table.now pass.new bag.new }
+    ensures others { (other : Chain) → IsRowChain table.now pass.old other
+        → IsApart r (refs_in (view pass.old) other)
+        → IsRowKept table.now pass.old pass.new other }
+    ensures made { view pass.new ≡ stored (view pass.old) r.index 1 (chain_word r.generation bag.old.head) }
+{
+    let mut rows = Rows { table, pass };
+    push(&mut rows, bag, r);
+    let Rows { table: _, pass: _ } = rows;
+}
+
+// Puts the records of the bag that none of the words names in front of the free ones, but for those that are spent. The
+// others stay in the bag.
+pub(crate) fn sift_bag<S: Shape>(
+    table: &Table<S, Hazard>,
+    pass: &mut Pass<S, Hazard>,
+    bag: &mut Chain,
+    words: &ArrayVec<u64, 192>,
+    free: &mut Chain,
+) -> Freed
+    requires pass { IsPassOf table.now pass.old }
+    requires bag { IsRowChain table.now pass.old bag.old }
+    requires free { IsRowChain table.now pass.old free.old }
+    requires apart { AreApart (refs_in (view pass.old) bag.old) (refs_in (view pass.old) free.old) }
+    ensures pass { IsSamePass pass.old pass.new }
+    ensures still { IsStill (view pass.old) (view pass.new) }
+    ensures kept { refs_in (view pass.new) bag.new ≡ reverse (filter (stays words.now.items) (refs_in (view pass.old) bag.old)) }
+    ensures bag_list { IsRowChain table.now pass.new bag.new }
+    ensures freed_refs { refs_in (view pass.new) free.new ≡ reverse (filter (returns words.now.items) (refs_in (view pass.old) bag.old)) ++ refs_in (view pass.old) free.old }
+    ensures free_list { IsRowChain table.now pass.new free.new }
+    ensures freed { result.freed ≡ count_by (goes words.now.items) (refs_in (view pass.old) bag.old) }
+    ensures spent { result.spent ≡ count_by (is_lost words.now.items) (refs_in (view pass.old) bag.old) }
+{
+    let test = Named { words };
+    let mut rows = Rows { table, pass };
+    let freed = sift(&mut rows, bag, &test, free);
+    let Rows { table: _, pass: _ } = rows;
+    freed
+}
