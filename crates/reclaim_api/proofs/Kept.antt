@@ -23,7 +23,7 @@ use Rattle.record_rule.specs.HandingOut.{IsOwnOf}
 use Rattle.record_rule.specs.ChainRows.{row_in, row_of_share}
 use Rattle.record_rule.proofs.TakesFree.{read_with}
 use Rattle.reclaim_api.specs.Chained.{IsAs, IsChainOf, refs_in}
-use Rattle.reclaim_api.specs.Frames.{GoesOn, AddsSteps, rest_as, in_rest, is_as, had, IsLimboLeft, LeavesRestBut}
+use Rattle.reclaim_api.specs.Frames.{GoesOn, AddsSteps, away_as, in_away, rest_as, in_rest, is_as, had, IsLimboLeft, LeavesRestBut}
 
 -- what is known of the records with this standing
 abbrev pub Stays : Standing → View → View → Type 0
@@ -160,3 +160,18 @@ goes_on c g h e = record { first = false; moment = record { epoch = 0; taken_out
 -- no step adds none
 pub same_adds : (b c : Book) → c ≡ b → AddsSteps b c
 same_adds b c e = ([], ap (λ (x : Book). x.steps) e ∙ sym (append-nil b.steps))
+
+-- what is known of a record in limbo or spent is the share itself
+away_back : (g h : Share) (s : Standing) → away_as g s ≡ Some h → g ≡ h
+away_back g h Limbo e = cc
+away_back g h Spent e = cc
+away_back g h (Handing n) e = let none : ⊥ = cc in absurd none
+away_back g h s e = let none : ⊥ = cc in absurd none
+
+away_is : (o : Option Share) (h : Share) → in_away o ≡ Some h → o ≡ Some h
+away_is None h e = let none : ⊥ = cc in absurd none
+away_is (Some g) h e = ap (λ (x : Share). Some x) (away_back g h g.standing e)
+
+-- so records in limbo stay where these are the same
+pub limbo_away : (v w : View) → ((i : ℕ) → in_away (get_or w.own.mine i None) ≡ in_away (get_or v.own.mine i None)) → Stays Limbo v w
+limbo_away v w away i h known is = away_is (share_in w i) h (away (i - 1) ∙ ap in_away known ∙ ap (away_as h) is)

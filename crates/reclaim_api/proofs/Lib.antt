@@ -9,3 +9,4 @@ pub mod Bagged
 pub mod Retiring
 pub mod Freeings
 pub mod Reached
+pub mod Rows

@@ -42,6 +42,7 @@ pub record SamePart (c : CoverFacts) (v w : View) : Type 0 where
   pub guard : GoesOn c v.own.guard w.own.guard
   pub away : (i : ℕ) → in_away (slice_index_or w.own.mine i None) ≡ in_away (slice_index_or v.own.mine i None)
   pub retired : w.own.moves.retired ≡ v.own.moves.retired
+  pub births : w.own.moves.births ≡ v.own.moves.births
 
 -- what is known of a record that a call which frees leaves alone
 abbrev pub rest_as : Share → Standing → Option Share

@@ -5,3 +5,5 @@ pub mod Guarding
 pub mod Holds
 pub mod LinkLoads
 pub mod Locals
+pub mod Owned
+pub mod StepForms

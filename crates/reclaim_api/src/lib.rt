@@ -7,8 +7,10 @@
 //! crossbeam-epoch; that each call's steps are a relation of its own is this project's.
 #![tactic(auto)]
 
+mod chains;
 mod holding;
 mod scheme;
 
+pub use chains::put_first;
 pub use holding::Holding;
 pub use scheme::Scheme;

@@ -8,13 +8,14 @@ ghost use Rattle.record_memory.specs.declared.books.Standing.TheVariants.{Free};
 ghost use Rattle.row_words.specs.Refs.{RefParts};
 ghost use Rattle.row_words.specs.declared.links.Freed.{Freed};
 ghost use Rattle.record_rule.specs.Links.{near_of, HasTaken};
+ghost use Rattle.record_rule.specs.Opening.{no_moves};
 ghost use Rattle.record_table.specs.Handles.{setup_of, view, is_inside, IsPassOf, IsSamePass};
 ghost use Rattle.record_table.specs.Nodes.{origin, HoldsNode};
 ghost use Rattle.record_table.specs.declared.nodes.Node.{Node};
 ghost use Rattle.reclaim_api.specs.Chained.{IsChainOf};
 ghost use Rattle.reclaim_api.specs.Guarding.{IsInside, Enters, Leaves};
 ghost use Rattle.reclaim_api.specs.Frames.{SamePart, AddsSteps, FreesInto, LeavesRest, LeavesRestBut, LeavesRecords};
-ghost use Rattle.reclaim_api.specs.Locals.{IsLocalOf, HasNoneAway};
+ghost use Rattle.reclaim_api.specs.Locals.{IsLocalOf, IsLocalBorn, HasNoneAway};
 ghost use Rattle.reclaim_api.specs.Holds.{IsElsewhere, HasReached, KeepsElse, KeepsHeld};
 ghost use Rattle.reclaim_api.specs.declared.holding.Holding.{Holding};
 
@@ -56,7 +57,7 @@ pub trait Scheme: Cover {
     fn local(caller: u32, callers: u32) -> Self::Local
         requires caller { caller < callers }
         requires callers { callers ≤ 64 }
-        ensures { (v s : View) → v.own.caller ≡ caller → v.setup.callers ≡ callers → v.own.guard ≡ Self.facts.first → v.own.steps ≡ [] → HasNoneAway v → is_local result false s v };
+        ensures { (v s : View) → v.own.caller ≡ caller → v.setup.callers ≡ callers → v.own.guard ≡ Self.facts.first → v.own.steps ≡ [] → v.own.moves ≡ no_moves → HasNoneAway v → is_local result false s v };
 
     /// The caller begins an operation. Records of its limbo may become free: they are put in front of
     /// `free`, its chain of free records, but for those that are spent.
@@ -87,7 +88,8 @@ pub trait Scheme: Cover {
         ensures rest { LeavesRecords (view pass.old) (view pass.new) }
         ensures does { leaves (setup_of table.now) (view pass.old).own (view pass.new).own };
 
-    /// The birth of the record that is handed out next, below 2^44.
+    /// The birth of the record that is handed out next, below 2^44. Called once for each record that becomes the caller's
+    /// own: one that was set aside keeps the birth that it has.
     fn birth<S: Shape>(
         table: &Table<S, Self>,
         pass: &mut Pass<S, Self>,
@@ -98,7 +100,7 @@ pub trait Scheme: Cover {
         requires local { IsLocalOf is_local local.old pass.old }
         ensures pass { IsSamePass pass.old pass.new }
         ensures inside { IsInside pass.new }
-        ensures local { IsLocalOf is_local local.new pass.new }
+        ensures local { IsLocalBorn is_local local.new pass.new }
         ensures rest { LeavesRecords (view pass.old) (view pass.new) }
         ensures keeps { KeepsHeld pass.old pass.new }
         ensures fits { result < 2 ^ 44 }
@@ -155,8 +157,8 @@ pub trait Scheme: Cover {
         ensures keeps { KeepsHeld pass.old pass.new }
         ensures does { puts_away (setup_of table.now) (view pass.old).own taken result (view pass.new).own };
 
-    // Of what its pass knows, whether a local part is this caller's depends on its guard, on its records in limbo and on
-    // how many it retired alone, and a guard may start with any load of a link.
+    // Of what its pass knows, whether a local part is this caller's depends on its guard, on its records in limbo, and on
+    // how many it retired and how many became its own alone; a guard may start with any load of a link.
     ghost local_stays: { (l : Self.Local) (inside : Bool) (s v w : View) → SamePart Self.facts v w → is_local l inside s v → is_local l inside s w };
 
     // Each call only adds steps.

@@ -5,6 +5,5 @@ pub mod Scans
 pub mod Opening
 pub mod Reaching
 pub mod Entered
-pub mod Rows
 pub mod Shifting
 pub mod Retired

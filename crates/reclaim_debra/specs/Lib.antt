@@ -4,4 +4,3 @@ pub mod Entering
 pub mod Adding
 pub mod Stamped
 pub mod LocalStays
-pub mod Owned

@@ -8,27 +8,12 @@ use Rattle.record_memory.specs.declared.books.Standing.{Standing}
 use Rattle.record_memory.specs.declared.books.Standing.TheVariants.{Handing, Limbo, Spent}
 use Rattle.record_rule.specs.Kinds.{share_in}
 use Rattle.reclaim_api.specs.Frames.{away_as, in_away, SamePart}
-use Rattle.reclaim_api.proofs.Kept.{Stays}
+use Rattle.reclaim_api.proofs.Kept.{Stays, limbo_away}
 use Rattle.reclaim_api.proofs.Bagged.{bag_away}
 use Rattle.debra_facts.specs.Debra.{debra}
 use Rattle.reclaim_debra.specs.declared.bags.Bags.{Bags}
 use Rattle.reclaim_debra.specs.LocalParts.{IsGuarded, IsLocal}
 use Rattle.reclaim_debra.specs.Stamped.{bags_stay}
-
--- what is known of a record in limbo or spent is the share itself
-away_back : (g h : Share) (s : Standing) → away_as g s ≡ Some h → g ≡ h
-away_back g h Limbo e = cc
-away_back g h Spent e = cc
-away_back g h (Handing n) e = let none : ⊥ = cc in absurd none
-away_back g h s e = let none : ⊥ = cc in absurd none
-
-away_is : (o : Option Share) (h : Share) → in_away o ≡ Some h → o ≡ Some h
-away_is None h e = let none : ⊥ = cc in absurd none
-away_is (Some g) h e = ap (λ (x : Share). Some x) (away_back g h g.standing e)
-
--- so records in limbo stay where these are the same
-pub limbo_away : (v w : View) → ((i : ℕ) → in_away (get_or w.own.mine i None) ≡ in_away (get_or v.own.mine i None)) → Stays Limbo v w
-limbo_away v w away i h known is = away_is (share_in w i) h (away (i - 1) ∙ ap in_away known ∙ ap (away_as h) is)
 
 guarded_same : (inside : Bool) (s v w : View) → w.setup ≡ v.setup → w.own.caller ≡ v.own.caller → w.own.guard ≡ v.own.guard → IsGuarded inside s v → IsGuarded inside s w
 guarded_same true s v w setup caller guard g = record {

@@ -7,7 +7,6 @@ pub mod Leaving
 pub mod Starting
 pub mod Confirming
 pub mod Scanning
-pub mod Rows
 pub mod Bagging
 pub mod Names
 pub mod Sifted

@@ -11,7 +11,7 @@ use Rattle.record_rule.specs.Guards.{started_if}
 use Rattle.record_rule.specs.Kinds.{share_in}
 use Rattle.record_rule.specs.Standings.{is_limbo}
 use Rattle.reclaim_api.specs.Frames.{away_as, in_away, is_as, had, SamePart}
-use Rattle.reclaim_api.proofs.Kept.{Stays, chain_stays}
+use Rattle.reclaim_api.proofs.Kept.{Stays, chain_stays, limbo_away}
 use Rattle.reclaim_api.proofs.Bagged.{bag_all, bag_away}
 use Rattle.hazard_facts.specs.Pointers.{hazard}
 use Rattle.reclaim_hazard.specs.declared.retired.Retired.{Retired}
@@ -34,21 +34,6 @@ local_by l i i' s s' v w setup caller stays many words loaded h = record {
 -- so where the caller knows the same of all records
 pub local_on : (l : Retired) (i i' : Bool) (s s' v w : View) → w.setup ≡ v.setup → w.own.caller ≡ v.own.caller → w.own.mine ≡ v.own.mine → length w.own.guard.announced ≡ length v.own.guard.announced → w.own.guard.loaded ≡ v.own.guard.loaded → IsLocal l i s v → IsLocal l i' s' w
 local_on l i i' s s' v w setup caller mine words loaded h = local_by l i i' s s' v w setup caller (λ j x known is. ap (λ (m : List (Option Share)). get_or m (j - 1) None) mine ∙ known) (ap (λ (m : List (Option Share)). count_by (is_as is_limbo) m) mine) words loaded h
-
--- what is known of a record in limbo or spent is the share itself
-away_back : (g h : Share) (s : Standing) → away_as g s ≡ Some h → g ≡ h
-away_back g h Limbo e = cc
-away_back g h Spent e = cc
-away_back g h (Handing n) e = let none : ⊥ = cc in absurd none
-away_back g h s e = let none : ⊥ = cc in absurd none
-
-away_is : (o : Option Share) (h : Share) → in_away o ≡ Some h → o ≡ Some h
-away_is None h e = let none : ⊥ = cc in absurd none
-away_is (Some g) h e = ap (λ (x : Share). Some x) (away_back g h g.standing e)
-
--- so records in limbo stay where these are the same
-limbo_away : (v w : View) → ((i : ℕ) → in_away (get_or w.own.mine i None) ≡ in_away (get_or v.own.mine i None)) → Stays Limbo v w
-limbo_away v w away i h known is = away_is (share_in w i) h (away (i - 1) ∙ ap in_away known ∙ ap (away_as h) is)
 
 -- a guard that may start with a load of a link
 words_on : (b : Bool) (m : Moment) (g : Guard) (step : ℕ) → (started_if b m g step).announced ≡ g.announced

@@ -1,5 +1,5 @@
 -- Loads of control words by which a reclaimer learns something, and after which records may have left limbo.
-use Rattle.std.proofs.Common.{◌≡◌, ◌≢◌, ℕ, ◌+◌, ◌*◌, ◌/◌, ◌%◌, ◌<◌, ◌≤◌, List, [], ◌∷◌, ◌++◌, length, length-set, map, drop, get_or, set, cond, eqb, Bool, true, false, Option, Some, sym, refl, ap, ◌∙◌, subst, arith, ⊎_elim, get_or-take, get_or-drop}
+use Rattle.std.proofs.Common.{◌≡◌, ◌≢◌, ℕ, ◌+◌, ◌-◌, ◌*◌, ◌/◌, ◌%◌, ◌<◌, ◌≤◌, List, [], ◌∷◌, ◌++◌, length, length-set, map, drop, get_or, set, cond, eqb, Bool, true, false, Option, Some, sym, refl, ap, ◌∙◌, subst, arith, ⊎_elim, get_or-take, get_or-drop}
 use Rattle.std.proofs.lemmas.Bool.{eqb-false}
 use Rattle.std.proofs.lemmas.List.{map-set, set-get_or, set-set, length-map}
 use mathlib.Core.Option.{some}
@@ -14,15 +14,16 @@ use Rattle.record_memory.specs.declared.books.View.{View}
 use Rattle.record_memory.specs.declared.books.Book.{Book}
 use Rattle.record_memory.specs.declared.books.Guard.{Guard}
 use Rattle.record_memory.specs.declared.books.Note.{Note}
+use Rattle.record_memory.specs.declared.books.Share.{Share}
 use Rattle.record_memory.specs.declared.books.Standing.{Standing}
-use Rattle.record_memory.specs.declared.books.Standing.TheVariants.{Handing, Limbo, Free, Spent}
+use Rattle.record_memory.specs.declared.books.Standing.TheVariants.{Handing, TakenOut, Limbo, Free, Spent}
 use Rattle.record_memory.specs.declared.books.Place.{Place}
 use Rattle.record_memory.specs.declared.books.Place.TheVariants.{Undrawn, Root, Of}
 use Rattle.record_memory.specs.Memory.{Memory, memory, size, stretch, word_at, IsWord, fetch}
 use Rattle.record_memory.proofs.Stores.{loads, is_word, address-word_at}
 use Rattle.row_words.specs.Refs.{RefParts, refer}
 use Rattle.record_rule.specs.Records.{Record, IsSound, carried_by, carried}
-use Rattle.record_rule.specs.Inputs.{ShapeCell, linked, out, shape_cell, limbo, scheme_cell, guard_of, notes_of, roots_of, locks_of, answered_of, offer_of, Outline, outline, shape_input, Start, start_of, trace, SchemeInput, scheme_input}
+use Rattle.record_rule.specs.Inputs.{ShapeCell, linked, out, shape_cell, limbo, scheme_cell, was_taken, taken_at, taken_cell, guard_of, notes_of, roots_of, locks_of, answered_of, offer_of, Outline, outline, shape_input, Start, start_of, trace, SchemeInput, scheme_input}
 use Rattle.record_rule.specs.Facts.{At, LimboRecord, Moment, ShapeFacts, CoverFacts, of_root, of_held}
 use Rattle.record_rule.specs.Held.{HoldFits, while_linked, while_out, WaitFits, HeldFits}
 use Rattle.record_rule.proofs.Waiting.{waits_hidden, waits_confirmed}
@@ -36,11 +37,12 @@ use Rattle.record_rule.proofs.Lists.{below_at, at_below, one_at, get_at, map_set
 use Rattle.record_rule.proofs.Quiet.{same_overshoot, past_before, books_after, calm_after}
 use Rattle.record_rule.proofs.Rebuilt.{starts_itself, one_more, made_more, stepped}
 use Rattle.record_rule.proofs.Loads.{load_within, control_fits, loads_control}
-use Rattle.record_rule.specs.Kinds.{freed_more}
+use Rattle.record_rule.specs.Kinds.{share_in, freed_more}
 use Rattle.record_rule.specs.Freeing.{count_freed}
 use Rattle.record_rule.proofs.FreedCounts.{counts_freed}
 use Rattle.record_rule.proofs.Steps.{before, given, book, are_whole, own_behind}
 use Rattle.record_rule.proofs.Safe.{safe}
+use Rattle.record_rule.proofs.Owners.{record_of}
 use Rattle.record_rule.proofs.Freed.{WasFreed, went, stayed, freed_records, each_freed, many_freed, other_shares, own_shares, same_rows, same_takings, hidden_cells, freed_cells, cell_stays}
 
 -- a record that left limbo is as sound
@@ -357,6 +359,14 @@ module _ (shape : ShapeFacts) (cover : CoverFacts) (setup : Setup) (s : State (U
 counted_there : (k setup : Setup) → k ≡ setup → {c n : ℕ} → c < n → n ≡ setup.callers → c < k.callers
 counted_there k setup same lt many = let e = ap (λ (z : Setup). z.callers) same in omega arith
 
+-- what a caller took out and hasn't retired is in the list of those taken out
+taken_before : (shape : ShapeFacts) (cover : CoverFacts) (setup : Setup) (s : State (Unit {0}) View) (u : Rule shape cover setup s) (id : ℕ) (v : View) (at : get_elem? s.views id ≡ some v) (present : v.present ≡ true) (i : ℕ) (h : Share) → share_in v i ≡ Some h → h.standing ≡ TakenOut → h.taken_number < length u.taken_out
+taken_before shape cover setup s u id v at present i h known standing = let x = record_of shape cover setup s u id v at present i h known in
+    let place : x.0.place ≡ Of v.own.caller TakenOut = x.2 ∙ ap (Of v.own.caller) standing in
+    let cell : At (map taken_cell u.records) (i - 1) (was_taken x.0.generation x.0.taken_number) = at_map taken_cell u.records (i - 1) x.0 x.1 ∙ ap some (ap (λ (p : Place). taken_at p x.0) place) in
+    let number : h.taken_number ≡ x.0.taken_number = ap (λ (y : Share). y.taken_number) x.3 in
+    subst (λ (n : ℕ). n < length u.taken_out) (sym number) (below_at u.taken_out x.0.taken_number (refer (i - 1 + 1) x.0.generation) (u.parts.taken.own (i - 1) x.0.generation x.0.taken_number cell))
+
 module _ (shape : ShapeFacts) (cover : CoverFacts) (shaped : ShapeLaws shape) (covering : CoverLaws cover) (setup : Setup) where
   -- Any control word may be loaded
   pub loads_controlled : (id word : ℕ) (v : View) → v.present ≡ true → v.setup ≡ setup → word < size setup.callers setup.records
@@ -371,6 +381,7 @@ module _ (shape : ShapeFacts) (cover : CoverFacts) (shaped : ShapeLaws shape) (c
       moment = moment (scheme_input (before shape cover setup s u)) (length u.updates);
       taken_out_is = refl;
       updates_is = refl;
+      behind = λ i h known standing. taken_before shape cover setup s u id v at present i h known standing;
       counted = counted_there v.setup setup same (below_at (before shape cover setup s u).guards v.own.caller v.own.guard (at_map guard_of u.books v.own.caller v.own (book shape cover setup s u id v at present))) (length-map u.books guard_of ∙ u.places.callers);
       shows = let x : SchemeInput = scheme_input (before shape cover setup s u) in subst (λ (k : Setup). cover.shows k v.own.guard (word_at v.setup.callers word) (get_or s.words word 0)) (sym same)
           (covering.shown setup x v.own.caller (get_or s.words word 0) v.own.guard (word_at v.setup.callers word) (safe shape cover setup u.records u.books u.taken_out u.updates (memory setup.callers setup.records s.words) u.places u.parts) u.parts.scheme

@@ -7,12 +7,12 @@ use Rattle.record_memory.specs.declared.books.View.{View}
 use Rattle.record_memory.specs.declared.books.Share.{Share}
 use Rattle.record_memory.specs.declared.books.Guard.{Guard}
 use Rattle.record_memory.specs.declared.books.Standing.{Standing}
-use Rattle.record_memory.specs.declared.books.Standing.TheVariants.{Free, Spent}
+use Rattle.record_memory.specs.declared.books.Standing.TheVariants.{TakenOut, Free, Spent}
 use Rattle.record_memory.specs.Memory.{word_at}
 use Rattle.row_words.specs.Refs.{RefParts, refer}
 use Rattle.row_words.specs.Packing.{number_in}
 use Rattle.record_rule.specs.Facts.{Moment, LimboRecord, CoverFacts}
-use Rattle.record_rule.specs.Kinds.{freed_more, control_load, loaded_control}
+use Rattle.record_rule.specs.Kinds.{share_in, freed_more, control_load, loaded_control}
 use Rattle.record_rule.specs.Links.{with_step, AreWhole}
 use Rattle.record_rule.specs.Standings.{is_limbo}
 
@@ -56,6 +56,8 @@ pub record LoadedControl (c : CoverFacts) (v : View) (word n : ℕ) (w : View) :
   pub moment : Moment
   pub taken_out_is : moment.taken_out ≡ length taken_out
   pub updates_is : moment.updates ≡ length updates
+  -- each record that its caller took out and hasn't retired was among them
+  pub behind : (i : ℕ) (h : Share) → share_in v i ≡ Some h → h.standing ≡ TakenOut → h.taken_number < length taken_out
   -- its caller is one of the table's
   pub counted : v.own.caller < v.setup.callers
   -- what the reclaimer learns of the value by the guard before

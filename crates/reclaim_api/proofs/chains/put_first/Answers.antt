@@ -1,6 +1,6 @@
 use Rattle.std.proofs.Common.{ap, sym}
-use Rattle.reclaim_hazard.proofs.Rows.{chain_back, kept_back}
-use Rattle.reclaim_hazard.proofs.chains.put_first.Goals as goal
+use Rattle.reclaim_api.proofs.Rows.{chain_back, kept_back}
+use Rattle.reclaim_api.proofs.chains.put_first.Goals as goal
 
 pub returns-clause-list : goal.returns-clause-list
 returns-clause-list g c = let m = c.push in chain_back c.args.table.now _ c.pass-1.given.0 m.new.words.pass.now (ap (λ t. t.now) m.ensures.same.0) (c.pass-1.given.1 (sym m.ensures.same.1)) m.new.chain m.ensures.list

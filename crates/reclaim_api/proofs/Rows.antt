@@ -1,4 +1,4 @@
--- The pass after calls, and what was known of the rows that had it.
+-- What was known of the rows is known of the pass that they had.
 use Rattle.std.proofs.Common.{◌≡◌, sym, ◌∙◌, subst}
 use Rattle.row_words.specs.declared.links.Chain.{Chain}
 use Rattle.limbo_bags.specs.Chains.{IsKept}
@@ -6,7 +6,7 @@ use Rattle.record_rule.specs.ChainRows.{row_in}
 use Rattle.record_table.specs.declared.table.Table.{Table}
 use Rattle.record_table.specs.declared.passes.Pass.{Pass}
 use Rattle.record_table.specs.Handles.{view, IsPassOf, IsSamePass}
-use Rattle.reclaim_debra.specs.Owned.{OwnsBy, IsRowChain, IsRowKept}
+use Rattle.reclaim_api.specs.Owned.{OwnsBy, IsRowChain, IsRowKept}
 
 -- the pass is one of the table still
 pub pass_still : {S R : Type 0} (t : Table S R) (p q : Pass S R) → IsPassOf t p → IsSamePass p q → IsPassOf t q
