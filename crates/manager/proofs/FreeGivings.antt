@@ -73,7 +73,7 @@ pub gives_works : {S R L : Type 0} {c : CoverFacts} (is_local : L → Bool → V
     → IsWorking is_local (record { pass = p; local = l; free = free; spare = spare; moved = n }) → IsChainOf Free (view q) free' → idle (view q).own ≡ free'.count + spare.count → IsWorking is_local (record { pass = q; local = l; free = free'; spare = spare; moved = n })
 gives_works is_local p q l free spare free' n same stays gives h list all = record {
   inside = inside_after p q same gives.steps gives.made h.inside;
-  chains = chains_after p q same gives.steps gives.made is_local l free spare free' spare stays h.chains gives.away list
+  chains = chains_after p q same gives.steps gives.made is_local l free spare free' spare stays h.chains (ap (λ (m : Moves). m.births) gives.moves) gives.away list
       (chain_stays Spare (view p) (view q) (ap (λ (k : Setup). k.records) same.setup) (spare_rest (view p) (view q) gives.rest) spare h.chains.spares)
       all;
   counts = counted_still (view p) (view q) n gives.away (same_moves (view p).own.moves (view q).own.moves gives.moves) h.counts;

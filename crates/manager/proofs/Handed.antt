@@ -1,5 +1,6 @@
 -- Handing a record out leaves the chains.
-use Rattle.std.proofs.Common.{◌≡◌, ◌≢◌, ℕ, zero, suc, ◌-◌, ◌<◌, ◌≤◌, List, get_or, sym, refl, ap, ◌∙◌, subst, arith, true, Some, None}
+use Rattle.std.proofs.Common.{◌≡◌, ◌≢◌, ℕ, zero, suc, ◌+◌, ◌-◌, ◌<◌, ◌≤◌, List, get_or, sym, refl, ap, ◌∙◌, subst, arith, Bool, true, cond, Some, None}
+use Rattle.std.proofs.lemmas.Bool.{ne_eqb}
 use native.Mathlib.Decide.{ℕ_discrete}
 use Rattle.record_memory.specs.declared.books.Setup.{Setup}
 use Rattle.record_memory.specs.declared.books.View.{View}
@@ -7,7 +8,7 @@ use Rattle.record_memory.specs.declared.books.Share.{Share}
 use Rattle.record_memory.specs.declared.books.Standing.{Standing}
 use Rattle.record_memory.specs.declared.books.Standing.TheVariants.{Handing, Own, Spare, TakenOut, Limbo, Free, Spent}
 use Rattle.row_words.specs.Refs.{RefParts}
-use Rattle.record_rule.specs.Kinds.{stored_as}
+use Rattle.record_rule.specs.Kinds.{stored_as, moves_stored, gave_birth}
 use Rattle.record_rule.specs.HandingOut.{HasDrawn, handed_out, stores_from, fresh_row}
 use Rattle.record_rule.proofs.HandingOut.{known_within, share_known, share_then, standing_then, standing_last}
 use Rattle.reclaim_api.specs.Frames.{away_as}
@@ -113,6 +114,15 @@ module _ (v : View) (r : RefParts) (birth : ℕ) (d : HasDrawn v r) where
   moved zero lt = same_moves v.own.moves v.own.moves refl
   moved (suc n) lt = moves_then v.own.moves (at n).own.moves (at (suc n)).own.moves (moved n (omega arith)) (subst (AreSameMoves (at n).own.moves) (sym (ap (λ (x : View). x.own.moves) (more n))) (stored_moves (share n).standing (at n).own.moves))
 
+  -- none becomes the caller's own before the last store, and this one with it
+  births : (n : ℕ) → n < 8 → (at n).own.moves.births ≡ v.own.moves.births
+  births zero lt = refl
+  births (suc n) lt = ap (λ (x : View). x.own.moves.births) (more n) ∙ ap (λ (s : Standing). (moves_stored s (at n).own.moves).births) (standing_then d.share row n d.fresh (omega arith))
+      ∙ ap (λ (b : Bool). (cond b (gave_birth (at n).own.moves) (at n).own.moves).births) (ne_eqb n 7 (λ e. omega arith)) ∙ births n (omega arith)
+
+  one_birth : (at 8).own.moves.births ≡ v.own.moves.births + 1
+  one_birth = ap (λ (x : View). x.own.moves.births) (more 7) ∙ ap (λ (s : Standing). (moves_stored s (at 7).own.moves).births) (standing_then d.share row 7 d.fresh (omega arith)) ∙ ap (λ (n : ℕ). n + 1) (births 7 (omega arith))
+
   -- and so do records that aren't being handed out
   stay : (standing : Standing) → IsThere standing → (n : ℕ) → n < 9 → Stays standing v (at n)
   stay standing there zero lt i h known is = known
@@ -131,6 +141,10 @@ module _ (v w : View) (r : RefParts) (birth : ℕ) (d : HasDrawn v r) (step : w 
   pub handed_moves : AreSameMoves v.own.moves w.own.moves
   unfolding handed_out
   handed_moves = subst (λ (x : View). AreSameMoves v.own.moves x.own.moves) (sym step) (moved v r birth d 8 (omega arith))
+
+  pub handed_births : w.own.moves.births ≡ v.own.moves.births + 1
+  unfolding handed_out
+  handed_births = ap (λ (x : View). x.own.moves.births) step ∙ one_birth v r birth d
 
   pub handed_stay : (standing : Standing) → IsThere standing → Stays standing v w
   unfolding handed_out

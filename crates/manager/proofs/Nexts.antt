@@ -29,14 +29,14 @@ module _ (shelves : ℕ) (busy : List Step → Type 0) (k : Setup) (v w : View) 
 -- a draw when there was none
 pub drew_next : (m : Manner) (draws : View → RefParts → View → Type 0) (refuses : View → ℕ → View → Type 0) (k : Setup) (b : Book) (u w : View) → u.setup ≡ k
     → ((r : RefParts) → draws_by draws k u.own r w.own → m.draws k u.own r w.own) → ((n : ℕ) → refuses_by refuses k u.own n w.own → m.refuses k u.own n w.own) → m.takes k b false u.own
-    → idle b ≡ 0 → had is_free b ≡ 0 → had is_spare w.own ≡ had is_spare b → u.own.moves.drawn ≡ b.moves.drawn
+    → idle b ≡ 0 → had is_free b ≡ 0 → had is_spare w.own ≡ had is_spare b → u.own.moves.drawn ≡ b.moves.drawn → w.own.moves.births ≡ b.moves.births
     → (o : Result RefParts NoRecord) → MatchResult o (λ r. draws u r w) (λ none. refuses u none.found w) → MatchResult o (λ _. w.own.moves.drawn ≡ u.own.moves.drawn + 1) (λ _. w.own.moves.drawn ≡ u.own.moves.drawn)
     → MatchResult o (λ r. Gets m k b r w.own) (λ none. FindsNone m k b none.found w.own)
-drew_next m draws refuses k b u w setup some gone none empty free spare as_before (Ok r) d drawn = from_draw u.own w.own free none (some r (u, w, record { setup = setup; before = refl; after = refl }, d)) (drawn ∙ ap (λ (n : ℕ). n + 1) as_before)
-drew_next m draws refuses k b u w setup some gone none empty free spare as_before (Err e) d drawn = record {
+drew_next m draws refuses k b u w setup some gone none empty free spare as_before births (Ok r) d drawn = from_draw u.own w.own free none (some r (u, w, record { setup = setup; before = refl; after = refl }, d)) (drawn ∙ ap (λ (n : ℕ). n + 1) as_before)
+drew_next m draws refuses k b u w setup some gone none empty free spare as_before births (Err e) d drawn = record {
   idle_is = empty;
   between = u.own;
   took = none;
   refused = gone e.found (u, w, record { setup = setup; before = refl; after = refl }, d);
-  stock = record { spare = spare; drawn = drawn ∙ as_before };
+  stock = record { spare = spare; drawn = drawn ∙ as_before; births = births };
 }

@@ -4,6 +4,7 @@ use Rattle.std.specs.Prelude.{MatchResult}
 use Rattle.set_model.specs.declared.calls.Call.{Call}
 use Rattle.record_memory.specs.declared.steps.Step.{Step}
 use Rattle.record_memory.specs.declared.books.Setup.{Setup}
+use Rattle.record_memory.specs.declared.books.Moves.{Moves}
 use Rattle.record_memory.specs.declared.books.View.{View}
 use Rattle.record_memory.specs.declared.books.Share.{Share}
 use Rattle.record_memory.specs.declared.books.Standing.{Standing}
@@ -26,7 +27,7 @@ use Rattle.reclaim_api.proofs.Kept.{Stays, chain_stays, goes_on}
 use Rattle.record_pieces.specs.Events.{KeepsStock}
 use Rattle.manager.specs.Callers.{HasChains}
 use Rattle.manager.proofs.OneShare.{AwayStays}
-use Rattle.manager.proofs.MoveCounts.{AreSameMoves, same_moves, counted_still}
+use Rattle.manager.proofs.MoveCounts.{same_moves, counted_still}
 use Rattle.manager.specs.declared.types.Moved.{Moved}
 use Rattle.manager.specs.Counted.{AreCounted}
 use Rattle.manager.proofs.Stay.{LocalStays, mine_stays, local_still}
@@ -37,7 +38,7 @@ use Rattle.manager.proofs.Entries.{IsAloof, entry_stays, entry_limbo, entry_idle
 pub record LeavesAll (c : CoverFacts) (v w : View) : Type 0 where
   pub guard : GoesOn c v.own.guard w.own.guard
   pub away : AwayStays v w
-  pub moves : AreSameMoves v.own.moves w.own.moves
+  pub moves : w.own.moves ≡ v.own.moves
   pub frees : Stays Free v w
   pub spares : Stays Spare v w
   pub idle_is : idle w.own ≡ idle v.own
@@ -57,18 +58,18 @@ module _ {S R L : Type 0} {c : CoverFacts} (is_local : L → Bool → View → V
 
   pub chains_still : HasChains is_local p l free spare → HasChains is_local q l free spare
   chains_still h = let records = ap (λ (k : Setup). k.records) same.setup in record {
-    local = local_still is_local p q l same stays record { setup = same.setup; caller = same.caller; guard = leaves.guard; away = leaves.away; retired = leaves.moves.retired } h.local;
+    local = local_still is_local p q l (view p) same stays record { setup = same.setup; caller = same.caller; guard = leaves.guard; away = leaves.away; retired = ap (λ (m : Moves). m.retired) leaves.moves; births = ap (λ (m : Moves). m.births) leaves.moves } h.local;
     frees = chain_stays Free (view p) (view q) records leaves.frees free h.frees;
     spares = chain_stays Spare (view p) (view q) records leaves.spares spare h.spares;
     all = leaves.idle_is ∙ h.all;
   }
 
   pub stock_still : HasChains is_local p l free spare → KeepsStock (view p).own (view q).own
-  stock_still h = record { spare = spares_kept is_local p q l l free spare free spare h (chains_still h) refl; drawn = leaves.moves.drawn }
+  stock_still h = record { spare = spares_kept is_local p q l l free spare free spare h (chains_still h) refl; drawn = ap (λ (m : Moves). m.drawn) leaves.moves; births = ap (λ (m : Moves). m.births) leaves.moves }
 
 -- and its counts are the same
 pub counts_left : (c : CoverFacts) (v w : View) (n : Moved) → LeavesAll c v w → AreCounted n v.own → AreCounted n w.own
-counts_left c v w n leaves h = counted_still v w n leaves.away leaves.moves h
+counts_left c v w n leaves h = counted_still v w n leaves.away (same_moves v.own.moves w.own.moves leaves.moves) h
 
 module _ (c : CoverFacts) (v w : View) where
   -- a step that leaves each record
@@ -76,7 +77,7 @@ module _ (c : CoverFacts) (v w : View) where
   leaves_records t guard mine moves steps = record {
     guard = guard;
     away = λ i. ap (λ m. in_away (get_or m i None)) mine;
-    moves = same_moves v.own.moves w.own.moves moves;
+    moves = moves;
     frees = mine_stays Free v w mine;
     spares = mine_stays Spare v w mine;
     idle_is = idle_mine v w mine;
@@ -87,7 +88,7 @@ module _ (c : CoverFacts) (v w : View) where
   pub leaves_others : (t : Step) (i : ℕ) (old new : Option Share) → share_in v i ≡ old → w.own.mine ≡ set v.own.mine (i - 1) new → i - 1 < length v.own.mine → IsAloof old → IsAloof new → w.own.moves ≡ v.own.moves → w.own.guard ≡ v.own.guard → w.own.steps ≡ v.own.steps ++ t ∷ [] → LeavesAll c v w
   leaves_others t i old new was mine within before after moves guard steps = record {
     guard = goes_on c v.own.guard w.own.guard guard;
-    moves = same_moves v.own.moves w.own.moves moves;
+    moves = moves;
     away = entry_limbo v w i old new was mine within before after;
     frees = entry_stays v w i old new was mine within before after Free (λ x. x);
     spares = entry_stays v w i old new was mine within before after Spare (λ x. x);

@@ -1,4 +1,4 @@
--- How many records a caller has spare, and how many it drew.
+-- How many records a caller has spare, and how many it drew and became its own.
 use Rattle.std.proofs.Common.{◌≡◌, Bool, None, ap, sym, ◌∙◌}
 use Rattle.std.specs.List.{count_by}
 use Rattle.record_memory.specs.declared.books.Moves.{Moves}
@@ -16,7 +16,7 @@ use Rattle.manager.proofs.ChainCounts.{free_is, spare_is}
 
 -- after a call that leaves each record
 pub stock_left : (v w : View) → LeavesRecords v w → KeepsStock v.own w.own
-stock_left v w rest = record { spare = ap (λ m. count_by (is_as is_spare) m) rest.mine; drawn = ap (λ (m : Moves). m.drawn) rest.moves }
+stock_left v w rest = record { spare = ap (λ m. count_by (is_as is_spare) m) rest.mine; drawn = ap (λ (m : Moves). m.drawn) rest.moves; births = ap (λ (m : Moves). m.births) rest.moves }
 
 module _ {S R L : Type 0} (is_local : L → Bool → View → View → Type 0) where
   module _ (p : Pass S R) (l : L) (free spare : Chain) (h : HasChains is_local p l free spare) where

@@ -57,6 +57,10 @@ module _ (v w : View) (chain after : Chain) (r : RefParts) (list : IsChainOf Spa
     pub taken_moves : AreSameMoves v.own.moves w.own.moves
     taken_moves = record { drawn = ap (λ (x : View). x.own.moves.drawn) taken_is; reused = ap (λ (x : View). x.own.moves.reused) taken_is; retired = ap (λ (x : View). x.own.moves.retired) taken_is; freed = ap (λ (x : View). x.own.moves.freed) taken_is }
 
+    -- and one more became the caller's own
+    pub taken_births : w.own.moves.births ≡ v.own.moves.births + 1
+    taken_births = ap (λ (x : View). x.own.moves.births) taken_is
+
     records : w.setup.records ≡ v.setup.records
     records = ap (λ (x : View). x.setup.records) taken_is
 

@@ -12,9 +12,9 @@ ghost use Rattle.record_table.specs.Handles.{setup_of, view, IsPassOf, IsSamePas
 ghost use Rattle.reclaim_api.specs.Frames.{had};
 ghost use Rattle.reclaim_api.specs.Holds.{KeepsHeld};
 ghost use Rattle.record_pieces.specs.Hands.{in_hand};
-ghost use Rattle.record_pieces.specs.OwnSteps.{own_load, own_store};
+ghost use Rattle.record_pieces.specs.OwnSteps.{OneStep, own_load, own_store};
 ghost use Rattle.record_pieces.specs.Giving.{GivesChains};
-ghost use Rattle.record_pieces.specs.Events.{HandsOut, KeepsStock, WasFree, Gets, FindsNone, Does, took, refused};
+ghost use Rattle.record_pieces.specs.Events.{HandsOut, KeepsStock, CountsBirth, WasFree, Gets, FindsNone, Does, took, refused};
 ghost use Rattle.pool.specs.Calls.{Takes};
 ghost use Rattle.pool.specs.declared.Taken.TheVariants.{Some as Took, None as FoundNone};
 ghost use Rattle.manager.specs.Manners.{gives_by, manner};
@@ -29,7 +29,8 @@ use reclaim_api::Scheme;
 use record_table::{Own, Shape, Table, TakenOut};
 use row_words::Ref;
 
-// The first spare record, where there is one.
+// The first spare record, where there is one. The reclaimer answers a birth for it, which isn't used: the record keeps the
+// birth that it has.
 fn take_spare<S: Shape, R: Scheme>(table: &Table<S, R>, caller: &mut Caller<S, R>) -> Option<Own>
     requires of { IsPassOf table.now caller.old.pass }
     requires caller { IsWorking R.is_local caller.old }
@@ -39,11 +40,14 @@ fn take_spare<S: Shape, R: Scheme>(table: &Table<S, R>, caller: &mut Caller<S, R
     ensures owns { KeepsOwn (view caller.old.pass) (view caller.new.pass) }
     ensures none { IfNone result ((caller.new ≡ caller.old) × (caller.old.spare.head ≡ None)) }
     ensures own { IfSome result (λ own. IsOwnOf (view caller.new.pass) own) }
-    ensures made { IfSome result (λ own. (n : ℕ) × Makes (view caller.old.pass) (view caller.new.pass) (own_load (view caller.old.pass).own own 1 n ∷ [])) }
-    ensures stock { IfSome result (λ _. (had is_spare (view caller.old.pass).own ≡ had is_spare (view caller.new.pass).own + 1) × ((view caller.new.pass).own.moves.drawn ≡ (view caller.old.pass).own.moves.drawn)) }
+    ensures keeps { IfSome result (λ _. KeepsHeld caller.old.pass caller.new.pass) }
+    ensures answers { IfSome result (λ _. AnswersNone (view caller.old.pass) (view caller.new.pass)) }
+    ensures does { IfSome result (λ own. (d : Book) × (birth : ℕ) × (n : ℕ) × R.bears (setup_of table.now) (view caller.old.pass).own birth d × OneStep d (own_load d own 1 n) (view caller.new.pass).own) }
+    ensures stock { IfSome result (λ _. (had is_spare (view caller.old.pass).own ≡ had is_spare (view caller.new.pass).own + 1) × CountsBirth (view caller.old.pass).own (view caller.new.pass).own) }
     ensures hand { IfSome result (λ _. in_hand (view caller.new.pass).own ≡ in_hand (view caller.old.pass).own + 1) }
 {
     let first = caller.spare.head?;
+    let _birth = R::birth(table, &mut caller.pass, &mut caller.local);
     let (own, next) = table.take_spare(&mut caller.pass, first);
     caller.spare.head = next;
     caller.spare.count -= 1;
@@ -64,7 +68,7 @@ pub(crate) fn set_spare<S: Shape, R: Scheme>(
     ensures pass { IsSamePass caller.old.pass caller.new.pass }
     ensures owns { KeepsOwnBut own.index (view caller.old.pass) (view caller.new.pass) }
     ensures made { (found : ℕ) × (left : ℕ) × Makes (view caller.old.pass) (view caller.new.pass) (own_store (view caller.old.pass).own own 1 found left ∷ []) }
-    ensures stock { (had is_spare (view caller.new.pass).own ≡ had is_spare (view caller.old.pass).own + 1) × ((view caller.new.pass).own.moves.drawn ≡ (view caller.old.pass).own.moves.drawn) }
+    ensures stock { (had is_spare (view caller.new.pass).own ≡ had is_spare (view caller.old.pass).own + 1) × ((view caller.new.pass).own.moves.drawn ≡ (view caller.old.pass).own.moves.drawn) × ((view caller.new.pass).own.moves.births ≡ (view caller.old.pass).own.moves.births) }
     ensures hand { in_hand (view caller.new.pass).own + 1 ≡ in_hand (view caller.old.pass).own }
 {
     let r = table.set_aside(&mut caller.pass, own, caller.spare.head);
@@ -120,6 +124,7 @@ fn draw<S: Shape, R: Scheme, A: Allocator>(
     ensures spare { caller.new.spare ≡ caller.old.spare }
     ensures made { (steps : List Step) × Makes (view caller.old.pass) (view caller.new.pass) steps }
     ensures drawn { MatchResult result (λ r. HasDrawn (view caller.new.pass) r) (λ _. Unit {0}) }
+    ensures births { (view caller.new.pass).own.moves.births ≡ (view caller.old.pass).own.moves.births }
     ensures moves { MatchResult result (λ _. (view caller.new.pass).own.moves.drawn ≡ (view caller.old.pass).own.moves.drawn + 1) (λ _. (view caller.new.pass).own.moves.drawn ≡ (view caller.old.pass).own.moves.drawn) }
     ensures does { MatchResult result (λ r. A.draws (view caller.old.pass) r (view caller.new.pass)) (λ none. A.refuses (view caller.old.pass) none.found (view caller.new.pass)) }
     ensures hand { MatchResult result (λ _. in_hand (view caller.new.pass).own ≡ in_hand (view caller.old.pass).own + 1) (λ _. in_hand (view caller.new.pass).own ≡ in_hand (view caller.old.pass).own) }
@@ -140,6 +145,7 @@ fn take_free<S: Shape, R: Scheme>(table: &Table<S, R>, caller: &mut Caller<S, R>
     ensures spare { caller.new.spare ≡ caller.old.spare }
     ensures none { IfNone result ((caller.new ≡ caller.old) × (caller.old.free.head ≡ None)) }
     ensures drawn { IfSome result (λ r. HasDrawn (view caller.new.pass) r) }
+    ensures births { (view caller.new.pass).own.moves.births ≡ (view caller.old.pass).own.moves.births }
     ensures again { IfSome result (λ r. WasFree (view caller.old.pass).own r × ((view caller.new.pass).own.moves.drawn ≡ (view caller.old.pass).own.moves.drawn)) }
     ensures made { IfSome result (λ r. (n : ℕ) × Makes (view caller.old.pass) (view caller.new.pass) (own_load (view caller.old.pass).own r 1 n ∷ [])) }
     ensures hand { IfSome result (λ _. in_hand (view caller.new.pass).own ≡ in_hand (view caller.old.pass).own + 1) }
@@ -163,6 +169,7 @@ fn take_chain<S: Shape, R: Scheme, P: Pool>(table: &Table<S, R>, caller: &mut Ca
     ensures owns { KeepsOwn (view caller.old.pass) (view caller.new.pass) }
     ensures spare { caller.new.spare ≡ caller.old.spare }
     ensures made { (steps : List Step) × Makes (view caller.old.pass) (view caller.new.pass) steps }
+    ensures births { (view caller.new.pass).own.moves.births ≡ (view caller.old.pass).own.moves.births }
     ensures some { result ≡ true → Takes P.SHELVES P.busy (view caller.old.pass) (view caller.new.pass) (Took caller.new.free) }
     ensures none { result ≡ false → Takes P.SHELVES P.busy (view caller.old.pass) (view caller.new.pass) FoundNone × (caller.new.free ≡ caller.old.free) }
     ensures hand { in_hand (view caller.new.pass).own ≡ in_hand (view caller.old.pass).own }
@@ -187,7 +194,7 @@ fn hand_out<S: Shape, R: Scheme>(table: &Table<S, R>, caller: &mut Caller<S, R>,
     ensures keeps { KeepsHeld caller.old.pass caller.new.pass }
     ensures answers { AnswersNone (view caller.old.pass) (view caller.new.pass) }
     ensures owns { KeepsOwn (view caller.old.pass) (view caller.new.pass) }
-    ensures stock { KeepsStock (view caller.old.pass).own (view caller.new.pass).own }
+    ensures stock { (had is_spare (view caller.new.pass).own ≡ had is_spare (view caller.old.pass).own) × CountsBirth (view caller.old.pass).own (view caller.new.pass).own }
     ensures own { IsOwnOf (view caller.new.pass) result }
     ensures record { result ≡ r }
     ensures does { (d : Book) × (birth : ℕ) × R.bears (setup_of table.now) (view caller.old.pass).own birth d × HandsOut r birth d (view caller.new.pass).own }
@@ -213,6 +220,7 @@ fn take_next<S: Shape, R: Scheme, A: Allocator, P: Pool>(
     ensures spare { caller.new.spare ≡ caller.old.spare }
     ensures made { (steps : List Step) × Makes (view caller.old.pass) (view caller.new.pass) steps }
     ensures drawn { MatchResult result (λ r. HasDrawn (view caller.new.pass) r) (λ _. Unit {0}) }
+    ensures births { (view caller.new.pass).own.moves.births ≡ (view caller.old.pass).own.moves.births }
     ensures did { MatchResult result
         (λ r. Gets (manner R.enters R.leaves R.bears R.reaches R.puts_away A.draws A.refuses P.SHELVES P.busy) (setup_of table.now) (view caller.old.pass).own r (view caller.new.pass).own)
         (λ none. FindsNone (manner R.enters R.leaves R.bears R.reaches R.puts_away A.draws A.refuses P.SHELVES P.busy) (setup_of table.now) (view caller.old.pass).own none.found (view caller.new.pass).own) }

@@ -114,9 +114,15 @@ Exchanges k at f expected new (Some link) b c = (n : ℕ) × (link ≡ link_in n
 abbrev pub HandsOut : RefParts → ℕ → Book → Book → Type 0
 HandsOut r birth b c = (v : View) × (w : View) × (v.own ≡ b) × (w.own ≡ c) × (w ≡ handed_out v r birth)
 
--- as many records are spare as before, and none was drawn
+-- as many records are spare as before, none was drawn, and none became the caller's own
 pub record KeepsStock (b c : Book) : Type 0 where
   pub spare : had is_spare c ≡ had is_spare b
+  pub drawn : c.moves.drawn ≡ b.moves.drawn
+  pub births : c.moves.births ≡ b.moves.births
+
+-- one record became the caller's own, and none was drawn
+pub record CountsBirth (b c : Book) : Type 0 where
+  pub births : c.moves.births ≡ b.moves.births + 1
   pub drawn : c.moves.drawn ≡ b.moves.drawn
 
 -- the caller had the record as free, at the generation before this one
@@ -133,10 +139,10 @@ module _ (m : Manner) (k : Setup) where
     from_pool : (d : Book) (n : ℕ) (c : Book) → had is_free b ≡ 0 → m.takes k b true d → WasFree d r → OneStep d (own_load d r 1 n) c → c.moves.drawn ≡ b.moves.drawn → Gets b r c
     from_draw : (d c : Book) → had is_free b ≡ 0 → m.takes k b false d → m.draws k d r c → c.moves.drawn ≡ b.moves.drawn + 1 → Gets b r c
 
-  -- an own record was got: a spare one; or, when there is none, one that was handed out, which leaves none spare
+  -- an own record was got, and the reclaimer answered one birth: a spare one, which keeps the birth that it has; or, when there is none, one that was handed out with it, which leaves none spare
   pub data Takes (b : Book) (r : RefParts) (c : Book) : Type 0 where
-    from_spare : (n : ℕ) → OneStep b (own_load b r 1 n) c → had is_spare b ≡ had is_spare c + 1 → c.moves.drawn ≡ b.moves.drawn → Takes b r c
-    handed : (d e : Book) (birth : ℕ) → had is_spare b ≡ 0 → Gets b r d → m.bears k d birth e → HandsOut r birth e c → KeepsStock d c → had is_spare c ≡ 0 → Takes b r c
+    from_spare : (d : Book) (birth n : ℕ) → m.bears k b birth d → OneStep d (own_load d r 1 n) c → had is_spare b ≡ had is_spare c + 1 → CountsBirth b c → Takes b r c
+    handed : (d e : Book) (birth : ℕ) → had is_spare b ≡ 0 → Gets b r d → d.moves.births ≡ b.moves.births → m.bears k d birth e → HandsOut r birth e c → CountsBirth d c → had is_spare c ≡ 0 → Takes b r c
 
   -- none was got: no record was idle, the pool had no chain, and the draw found none left
   pub record FindsNone (b : Book) (n : ℕ) (c : Book) : Type 0 where
@@ -158,7 +164,7 @@ module _ (m : Manner) (k : Setup) where
   Acts (took r) b c = Takes b r c
   Acts (refused n) b c = FindsNone b n c
   Acts (stored_own r f payload) b c = ((found : ℕ) × OneStep b (own_store b r f found (packed_number r.generation payload)) c) × KeepsStock b c
-  Acts (gave_back r) b c = ((found : ℕ) × (left : ℕ) × OneStep b (own_store b r 1 found left) c) × (had is_spare c ≡ had is_spare b + 1) × (c.moves.drawn ≡ b.moves.drawn)
+  Acts (gave_back r) b c = ((found : ℕ) × (left : ℕ) × OneStep b (own_store b r 1 found left) c) × (had is_spare c ≡ had is_spare b + 1) × (c.moves.drawn ≡ b.moves.drawn) × (c.moves.births ≡ b.moves.births)
   Acts (retired r) b c = ((d : Book) × (f : Freed) × m.puts_away k b r f d × GivesChains m.shelves (m.gives k) f d c) × KeepsStock b c
   Acts (placed call reply position) b c = ((n : ℕ) × OneStep b (placing_load b n) c) × (c.answered ≡ b.answered ++ read_at position call reply ∷ []) × KeepsStock b c
   Acts ended b c = m.leaves k b c × KeepsStock b c

@@ -35,6 +35,7 @@ pub returns-clause-stock : goal.returns-clause-stock
 returns-clause-stock g c = let a = c.args.caller.now in let b = c.give_chains.new.caller in record {
   spare = spares_kept _ a.pass b.pass a.local b.local a.free a.spare b.free b.spare c.requires.caller.chains c.give_chains.ensures.caller.chains (ap (λ (x : Chain). x.count) c.give_chains.ensures.spare);
   drawn = ap (λ (m : Moves). m.drawn) c.give_chains.ensures.free.moves ∙ ap (λ (m : Moves). m.drawn) c.enter-left.ensures.rest.moves;
+  births = ap (λ (m : Moves). m.births) c.give_chains.ensures.free.moves ∙ ap (λ (m : Moves). m.births) c.enter-left.ensures.rest.moves;
 }
 
 pub returns-clause-does : goal.returns-clause-does

@@ -11,7 +11,7 @@ pub returns-clause-caller : goal.returns-clause-caller
 returns-clause-caller g c = let f = c.requires.fresh.2 in let v = view c.args.pass in record {
   outside = c.requires.outside;
   chains = record {
-    local = subst (λ (b : Bool). g.R.Scheme.is_local c.local-local.result b (since c.args.pass) v) (sym c.requires.outside) (c.local-local.ensures v (since c.args.pass) (sym c.caller.ensures) (ap (λ (k : Setup). k.callers) f.setup_is ∙ sym c.callers.ensures.callers) (ap (λ (b : Book). b.guard) f.own) (ap (λ (b : Book). b.steps) f.own) (fresh_away _ _ _ v f));
+    local = subst (λ (b : Bool). g.R.Scheme.is_local c.local-local.result b (since c.args.pass) v) (sym c.requires.outside) (c.local-local.ensures v (since c.args.pass) (sym c.caller.ensures) (ap (λ (k : Setup). k.callers) f.setup_is ∙ sym c.callers.ensures.callers) (ap (λ (b : Book). b.guard) f.own) (ap (λ (b : Book). b.steps) f.own) (ap (λ (b : Book). b.moves) f.own) (fresh_away _ _ _ v f));
     frees = empty_chain Free v _ c.new.ensures.head c.new.ensures.count;
     spares = empty_chain Spare v _ c.new-2.ensures.head c.new-2.ensures.count;
     all = let i = fresh_idle _ _ _ v f in let a = c.new.ensures.count in let b = c.new-2.ensures.count in omega arith;

@@ -20,7 +20,7 @@ returns-in_err-r-clause-caller g c = let a = c.args.caller.now in let q = c.draw
     let m = draws_makes v w c.draw.result e.rest in let records = ap (λ (k : Setup). k.records) e.pass.setup in
     let away = draws_limbo v w c.draw.result e.new e.rest in record {
       inside = inside_after a.pass q e.pass m.0 m.1 h.inside;
-      chains = chains_after a.pass q e.pass m.0 m.1 _ a.local a.free a.spare a.free a.spare g.met.R.Scheme.local_stays h.chains away
+      chains = chains_after a.pass q e.pass m.0 m.1 _ a.local a.free a.spare a.free a.spare g.met.R.Scheme.local_stays h.chains (ap (λ (x : Moves). x.births) c.in_err-r.ensures.rest.moves) away
           (chain_stays Free v w records (draws_stay v w c.draw.result e.new e.rest Free) a.free h.chains.frees)
           (chain_stays Spare v w records (draws_stay v w c.draw.result e.new e.rest Spare) a.spare h.chains.spares)
           (draws_idle v w c.draw.result e.new e.rest ∙ h.chains.all);
@@ -32,7 +32,7 @@ returns-clause-caller g c = let a = c.args.caller.now in let q = c.draw.new.pass
     let m = draws_makes v w c.draw.result e.rest in let records = ap (λ (k : Setup). k.records) e.pass.setup in
     let away = draws_limbo v w c.draw.result e.new e.rest in let n = h.counts in let moves = c.in_ok-r.ensures.rest.moves in record {
       inside = inside_after a.pass q e.pass m.0 m.1 h.inside;
-      chains = chains_after a.pass q e.pass m.0 m.1 _ a.local a.free a.spare a.free a.spare g.met.R.Scheme.local_stays h.chains away
+      chains = chains_after a.pass q e.pass m.0 m.1 _ a.local a.free a.spare a.free a.spare g.met.R.Scheme.local_stays h.chains (ap (λ (x : Moves). x.births) moves) away
           (chain_stays Free v w records (draws_stay v w c.draw.result e.new e.rest Free) a.free h.chains.frees)
           (chain_stays Spare v w records (draws_stay v w c.draw.result e.new e.rest Spare) a.spare h.chains.spares)
           (draws_idle v w c.draw.result e.new e.rest ∙ h.chains.all);
@@ -48,6 +48,12 @@ returns-clause-caller g c = let a = c.args.caller.now in let q = c.draw.new.pass
 
 pub returns-clause-owns : goal.returns-clause-owns
 returns-clause-owns g c = let e = c.draw.ensures in owns_stay _ _ (ap (λ (k : Setup). k.records) e.pass.setup) (draws_stay (view c.args.caller.now.pass) (view c.draw.new.pass) c.draw.result e.new e.rest Own)
+
+pub returns-in_err-r-clause-births : goal.returns-in_err-r-clause-births
+returns-in_err-r-clause-births g c = ap (λ (m : Moves). m.births) c.in_err-r.ensures.rest.moves
+
+pub returns-clause-births : goal.returns-clause-births
+returns-clause-births g c = ap (λ (m : Moves). m.births) c.in_ok-r.ensures.rest.moves
 
 pub returns-clause-moves : goal.returns-clause-moves
 returns-clause-moves g c = ap (λ (m : Moves). m.drawn) c.in_ok-r.ensures.rest.moves

@@ -8,18 +8,12 @@ use Rattle.row_words.specs.declared.links.Chain.{Chain}
 use Rattle.reclaim_api.specs.Holds.{KeepsHeld}
 use Rattle.reclaim_api.proofs.Keeping.{held_then}
 use Rattle.manager.specs.Manners.{manner}
-use Rattle.manager.proofs.Stay.{keeps_after, answers_after}
+use Rattle.manager.proofs.Stay.{keeps_after}
 use Rattle.manager.proofs.Stocks.{no_spare}
 use Rattle.manager.proofs.records.fresh.Goals as goal
 
 pub returns-in-Some-clause-did : goal.returns-in-Some-clause-did
-returns-in-Some-clause-did g c = let e = c.in-Some.ensures in record { acts = from_spare e.made.0 e.made.1.appended e.stock.0 e.stock.1; hand = omega (arith, e.hand) }
-
-pub returns-in-Some-clause-keeps : goal.returns-in-Some-clause-keeps
-returns-in-Some-clause-keeps g c = keeps_after _ _ c.take_spare.ensures.pass _ c.in-Some.ensures.made.1
-
-pub returns-in-Some-clause-answers : goal.returns-in-Some-clause-answers
-returns-in-Some-clause-answers g c = answers_after _ _ c.take_spare.ensures.pass _ c.in-Some.ensures.made.1
+returns-in-Some-clause-did g c = let e = c.in-Some.ensures in let d = e.does in record { acts = from_spare d.0 d.1 d.2 d.3 d.4 e.stock.0 e.stock.1; hand = omega (arith, e.hand) }
 
 pub returns-clause-did : goal.returns-clause-did
 returns-clause-did g c = let k = setup_of c.args.table.now in let h = c.hand_out.ensures.does in let b = (view c.args.caller.now.pass).own in let w = (view c.hand_out.new.caller.pass).own in
@@ -29,7 +23,7 @@ returns-clause-did g c = let k = setup_of c.args.table.now in let h = c.hand_out
     let left : next.spare.head ≡ None = ap (λ (x : Chain). x.head) c.take_next.ensures.spare ∙ ap (λ x. x.spare.head) none.0 ∙ none.1 in
     let before : in_hand (view c.take_spare.new.caller.pass).own ≡ in_hand b = ap (λ x. in_hand (view x.pass).own) none.0 in record {
       acts = subst (λ (z : RefParts). Takes m k b z w) (sym c.hand_out.ensures.record)
-          (handed _ h.0 h.1 (no_spare _ a.pass a.local a.free a.spare c.requires.caller.chains none.1) gets h.2 h.3 stock (stock.spare ∙ no_spare _ next.pass next.local next.free next.spare c.take_next.ensures.caller.chains left));
+          (handed _ h.0 h.1 (no_spare _ a.pass a.local a.free a.spare c.requires.caller.chains none.1) gets (c.take_next.ensures.births ∙ ap (λ x. (view x.pass).own.moves.births) none.0) h.2 h.3 stock.1 (stock.0 ∙ no_spare _ next.pass next.local next.free next.spare c.take_next.ensures.caller.chains left));
       hand = omega (arith, c.hand_out.ensures.hand, c.in_ok-r.ensures.hand, before);
     }
 

@@ -1,4 +1,4 @@
-use Rattle.std.proofs.Common.{get_or, None, ap, sym, refl, subst, ◌∙◌, List}
+use Rattle.std.proofs.Common.{◌+◌, get_or, None, ap, sym, refl, subst, ◌∙◌, List}
 use Rattle.record_memory.specs.declared.books.View.{View}
 use Rattle.record_memory.specs.declared.books.Setup.{Setup}
 use Rattle.record_memory.specs.declared.steps.Step.{Step}
@@ -10,8 +10,8 @@ use Rattle.record_rule.proofs.Makes.{handed_makes, handed_idle}
 use Rattle.record_rule.specs.HandingOut.{HasDrawn}
 use Rattle.reclaim_api.proofs.Kept.{chain_stays}
 use Rattle.record_pieces.proofs.Hands.{hand_left}
-use Rattle.manager.proofs.Stay.{chains_stay, inside_after, keeps_after, chains_after, answers_after}
-use Rattle.manager.proofs.Handed.{handed_hand, still_drawn, handed_limbo, handed_moves, handed_stay}
+use Rattle.manager.proofs.Stay.{lists_stay, lists_of, inside_after, keeps_after, chains_born, answers_after}
+use Rattle.manager.proofs.Handed.{handed_hand, still_drawn, handed_limbo, handed_moves, handed_births, handed_stay}
 use Rattle.reclaim_api.specs.Frames.{in_away}
 use Rattle.record_memory.specs.declared.books.Moves.{Moves}
 use Rattle.manager.proofs.MoveCounts.{same_moves, counted_still}
@@ -33,10 +33,10 @@ made g c = let v : View = view c.birth-birth.new.pass in let m = handed_makes v 
 
 pub returns-clause-caller : goal.returns-clause-caller
 returns-clause-caller g c = let a = c.args.caller.now in let b = c.birth-birth.ensures in let e = c.hand_out.ensures in let q = c.birth-birth.new.pass in let z = c.hand_out.new.pass in let v : View = view q in let w : View = view z in let r = c.args.r in
-    let h = c.requires.caller in let mid = chains_stay _ a.pass q a.local c.birth-birth.new.local a.free a.spare b.pass.setup h.chains b.local b.rest in
+    let h = c.requires.caller in let mid = lists_stay (view a.pass) v a.free a.spare b.pass.setup b.rest (lists_of _ a.pass a.local a.free a.spare h.chains) in
     let d = drawn g c in let n = c.birth-birth.result in let m = made g c in let records = ap (λ (k : Setup). k.records) e.pass.setup in record {
       inside = inside_after q z e.pass m.0 m.1 b.inside;
-      chains = chains_after q z e.pass m.0 m.1 _ c.birth-birth.new.local a.free a.spare a.free a.spare g.met.R.Scheme.local_stays mid (handed_limbo v w r n d e.steps)
+      chains = chains_born q z e.pass m.0 m.1 _ c.birth-birth.new.local a.free a.spare g.met.R.Scheme.local_stays b.local (handed_births v w r n d e.steps) (handed_limbo v w r n d e.steps)
           (chain_stays Free v w records (handed_stay v w r n d e.steps Free tt) a.free mid.frees)
           (chain_stays Spare v w records (handed_stay v w r n d e.steps Spare tt) a.spare mid.spares)
           (ap (λ (x : View). idle x.own) e.steps ∙ handed_idle v r n d ∙ mid.all);
@@ -55,10 +55,13 @@ returns-clause-owns g c r own = let q = c.birth-birth.new.pass in let z = c.hand
     owns_stay (view q) (view z) (ap (λ (k : Setup). k.records) e.pass.setup) (handed_stay (view q) (view z) c.args.r c.birth-birth.result (drawn g c) e.steps Own tt) r (owns_mine _ (view q) (ap (λ (k : Setup). k.records) b.pass.setup) b.rest.mine r own)
 
 pub returns-clause-stock : goal.returns-clause-stock
-returns-clause-stock g c = let a = c.args.caller.now in let b = c.birth-birth.new in let z = c.hand_out.new.pass in record {
-  spare = spares_kept _ a.pass z a.local b.local a.free a.spare a.free a.spare c.requires.caller.chains (returns-clause-caller g c).chains refl;
-  drawn = (handed_moves (view b.pass) (view z) c.args.r c.birth-birth.result (drawn g c) c.hand_out.ensures.steps).drawn ∙ ap (λ (m : Moves). m.drawn) c.birth-birth.ensures.rest.moves;
-}
+returns-clause-stock g c = let a = c.args.caller.now in let b = c.birth-birth.new in let z = c.hand_out.new.pass in let rest = c.birth-birth.ensures.rest.moves in (
+  spares_kept _ a.pass z a.local b.local a.free a.spare a.free a.spare c.requires.caller.chains (returns-clause-caller g c).chains refl,
+  record {
+    births = handed_births (view b.pass) (view z) c.args.r c.birth-birth.result (drawn g c) c.hand_out.ensures.steps ∙ ap (λ (m : Moves). m.births + 1) rest;
+    drawn = (handed_moves (view b.pass) (view z) c.args.r c.birth-birth.result (drawn g c) c.hand_out.ensures.steps).drawn ∙ ap (λ (m : Moves). m.drawn) rest;
+  },
+)
 
 pub returns-clause-hand : goal.returns-clause-hand
 returns-clause-hand g c = let b = c.birth-birth.new in handed_hand (view b.pass) (view c.hand_out.new.pass) c.args.r c.birth-birth.result (drawn g c) c.hand_out.ensures.steps ∙ hand_left (view c.args.caller.now.pass) (view b.pass) c.birth-birth.ensures.rest

@@ -19,7 +19,7 @@ returns-clause-caller g c = let a = c.args.caller.now in let q = c.set_aside-r.n
     let ref : IsRef c.args.own = subst IsRef (c.r.view_is ∙ e.record) c.r.invariant in let head : after.head ≡ Some c.args.own = ap (λ (z : RefParts). Some z) e.record in
     let row = c.requires.own.0 in let own = c.requires.own.1 in let made = pushed_makes v w a.spare after c.args.own row list own ref e.step head refl in record {
       inside = inside_after a.pass q e.pass _ made h.inside;
-      chains = chains_after a.pass q e.pass _ made _ a.local a.free a.spare a.free after g.met.R.Scheme.local_stays h.chains (pushed_limbo v w a.spare after c.args.own row list own ref e.step head refl)
+      chains = chains_after a.pass q e.pass _ made _ a.local a.free a.spare a.free after g.met.R.Scheme.local_stays h.chains (ap (λ (m : Moves). m.births) (pushed_moves v w a.spare after c.args.own row list own ref e.step head refl)) (pushed_limbo v w a.spare after c.args.own row list own ref e.step head refl)
           (pushed_free v w a.spare after c.args.own row list own ref e.step head refl a.free h.chains.frees)
           (pushed_list v w a.spare after c.args.own row list own ref e.step head refl)
           (let i = e.idle in let all = h.chains.all in omega arith);
@@ -42,10 +42,8 @@ pub returns-clause-stock : goal.returns-clause-stock
 returns-clause-stock g c = let a = c.args.caller.now in let q = c.set_aside-r.new.pass in let e = c.set_aside-r.ensures in
     let after : Chain = record { head = Some c.set_aside-r.result; count = a.spare.count + 1 } in
     let ref : IsRef c.args.own = subst IsRef (c.r.view_is ∙ e.record) c.r.invariant in let head : after.head ≡ Some c.args.own = ap (λ (z : RefParts). Some z) e.record in
-    let before = spares_in _ a.pass a.local a.free a.spare c.requires.caller.chains in let now = spares_in _ q a.local a.free after (returns-clause-caller g c).chains in (
-      omega arith,
-      ap (λ (m : Moves). m.drawn) (pushed_moves (view a.pass) (view q) a.spare after c.args.own c.requires.own.0 c.requires.caller.chains.spares c.requires.own.1 ref e.step head refl),
-    )
+    let moves = pushed_moves (view a.pass) (view q) a.spare after c.args.own c.requires.own.0 c.requires.caller.chains.spares c.requires.own.1 ref e.step head refl in
+    let before = spares_in _ a.pass a.local a.free a.spare c.requires.caller.chains in let now = spares_in _ q a.local a.free after (returns-clause-caller g c).chains in (omega arith, ap (λ (m : Moves). m.drawn) moves, ap (λ (m : Moves). m.births) moves)
 
 pub returns-clause-hand : goal.returns-clause-hand
 returns-clause-hand g c = let a = c.args.caller.now in let e = c.set_aside-r.ensures in

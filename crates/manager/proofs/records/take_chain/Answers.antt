@@ -1,4 +1,5 @@
 use Rattle.std.proofs.Common.{ap, subst, get_or, None, ◌∙◌, arith}
+use Rattle.record_memory.specs.declared.books.Moves.{Moves}
 use Rattle.record_memory.specs.declared.books.View.{View}
 use Rattle.record_memory.specs.declared.books.Setup.{Setup}
 use Rattle.record_memory.specs.declared.books.Standing.TheVariants.{Own, Free, Spare}
@@ -19,7 +20,7 @@ pub returns-in-Some-clause-caller : goal.returns-in-Some-clause-caller
 returns-in-Some-clause-caller g c = let a = c.args.caller.now in let q = c.take.new.pass in let v : View = view a.pass in let w : View = view q in let e = c.take.ensures in let h = c.requires.caller in
     let t = subst (Takes g.P.Pool.SHELVES g.P.Pool.busy v w) c.in-Some.is e.takes in let chain = c.in-Some.chain in record {
       inside = inside_after a.pass q e.pass t.steps t.made h.inside;
-      chains = chains_after a.pass q e.pass t.steps t.made _ a.local a.free a.spare chain a.spare g.met.R.Scheme.local_stays h.chains (gained_limbo v w chain t.answer.0 t.answer.1)
+      chains = chains_after a.pass q e.pass t.steps t.made _ a.local a.free a.spare chain a.spare g.met.R.Scheme.local_stays h.chains (ap (λ (m : Moves). m.births) t.moves) (gained_limbo v w chain t.answer.0 t.answer.1)
           t.answer.0.list
           (chain_stays Spare v w (ap (λ (k : Setup). k.records) e.pass.setup) (gained_stays v w chain t.answer.0 t.answer.1 Spare) a.spare h.chains.spares)
           (let i = gained_idle v w chain t.answer.0 t.answer.1 in let all = h.chains.all in let none = none_in Free v a.free h.chains.frees c.requires.none in omega arith);
@@ -30,7 +31,7 @@ pub returns-in-None-clause-caller : goal.returns-in-None-clause-caller
 returns-in-None-clause-caller g c = let a = c.args.caller.now in let q = c.take.new.pass in let v : View = view a.pass in let w : View = view q in let e = c.take.ensures in let h = c.requires.caller in
     let t = subst (Takes g.P.Pool.SHELVES g.P.Pool.busy v w) c.in-None.is e.takes in let records = ap (λ (k : Setup). k.records) e.pass.setup in record {
       inside = inside_after a.pass q e.pass t.steps t.made h.inside;
-      chains = chains_after a.pass q e.pass t.steps t.made _ a.local a.free a.spare a.free a.spare g.met.R.Scheme.local_stays h.chains (λ i. ap (λ l. in_away (get_or l i None)) t.answer.0)
+      chains = chains_after a.pass q e.pass t.steps t.made _ a.local a.free a.spare a.free a.spare g.met.R.Scheme.local_stays h.chains (ap (λ (m : Moves). m.births) t.moves) (λ i. ap (λ l. in_away (get_or l i None)) t.answer.0)
           (chain_stays Free v w records (mine_stays Free v w t.answer.0) a.free h.chains.frees)
           (chain_stays Spare v w records (mine_stays Spare v w t.answer.0) a.spare h.chains.spares)
           (idle_mine v w t.answer.0 ∙ h.chains.all);
@@ -51,3 +52,9 @@ returns-in-Some-clause-hand g c = let v : View = view c.args.caller.now.pass in 
 
 pub returns-in-None-clause-hand : goal.returns-in-None-clause-hand
 returns-in-None-clause-hand g c = let v : View = view c.args.caller.now.pass in let w : View = view c.take.new.pass in let t = subst (Takes g.P.Pool.SHELVES g.P.Pool.busy v w) c.in-None.is c.take.ensures.takes in hand_mine v.own w.own t.answer.0
+
+pub returns-in-Some-clause-births : goal.returns-in-Some-clause-births
+returns-in-Some-clause-births g c = let v : View = view c.args.caller.now.pass in let w : View = view c.take.new.pass in ap (λ (m : Moves). m.births) (subst (Takes g.P.Pool.SHELVES g.P.Pool.busy v w) c.in-Some.is c.take.ensures.takes).moves
+
+pub returns-in-None-clause-births : goal.returns-in-None-clause-births
+returns-in-None-clause-births g c = let v : View = view c.args.caller.now.pass in let w : View = view c.take.new.pass in ap (λ (m : Moves). m.births) (subst (Takes g.P.Pool.SHELVES g.P.Pool.busy v w) c.in-None.is c.take.ensures.takes).moves

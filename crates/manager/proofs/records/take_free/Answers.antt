@@ -21,7 +21,7 @@ returns-clause-caller g c = let a = c.args.caller.now in let q = c.take_free-r.n
     let after : Chain = record { head = c.take_free-r.result.1; count = a.free.count - 1 } in
     let made = again_makes v w a.free after r list head e.step e.next refl in record {
       inside = inside_after a.pass q e.pass _ made h.inside;
-      chains = chains_after a.pass q e.pass _ made _ a.local a.free a.spare after a.spare g.met.R.Scheme.local_stays h.chains (again_away v w a.free after r list head e.step e.next refl)
+      chains = chains_after a.pass q e.pass _ made _ a.local a.free a.spare after a.spare g.met.R.Scheme.local_stays h.chains (ap (λ (x : View). x.own.moves.births) e.step.view) (again_away v w a.free after r list head e.step e.next refl)
           (again_rest v w a.free after r list head e.step e.next refl)
           (again_spare v w a.free after r list head e.step e.next refl a.spare h.chains.spares)
           (let i = e.idle in let all = h.chains.all in let some = pop_count Free v w a.free after r list head in omega arith);
@@ -44,6 +44,9 @@ pub returns-clause-owns : goal.returns-clause-owns
 returns-clause-owns g c = let a = c.args.caller.now in let v : View = view a.pass in let w : View = view c.take_free-r.new.pass in let r = c.in_ok-first.first in let e = c.take_free-r.ensures in
     let after : Chain = record { head = c.take_free-r.result.1; count = a.free.count - 1 } in
     again_owns v w a.free after r c.requires.caller.chains.frees c.in_ok-first.was e.step e.next refl
+
+pub returns-clause-births : goal.returns-clause-births
+returns-clause-births g c = ap (λ (x : View). x.own.moves.births) c.take_free-r.ensures.step.view
 
 pub returns-clause-again : goal.returns-clause-again
 returns-clause-again g c = let v : View = view c.args.caller.now.pass in let e = c.take_free-r.ensures in let was = e.step.was in (
