@@ -40,6 +40,26 @@ alike_one t u i (Some h) same = by (is_limbo h.standing) refl
     by true e = ap (λ (x : Bool). cond {A = ℕ} x 1 0) (same h refl (limbo_is h.standing e))
     by false e = refl
 
+-- one test lets no more pass than another that it implies
+module _ (t u : LimboRecord → Bool) (less : (x : LimboRecord) → t x ≡ true → u x ≡ true) where
+  one_less : (i : ℕ) (o : Option Share) → leaves_one t i o ≤ leaves_one u i o
+  one_less i None = omega arith
+  one_less i (Some h) = by (is_limbo h.standing) (t (limbo_share i h)) refl (u (limbo_share i h)) refl
+    where
+      by : (a b : Bool) → t (limbo_share i h) ≡ b → (c : Bool) → u (limbo_share i h) ≡ c → cond (a && b) 1 0 ≤ cond (a && c) 1 0
+      by false b e c f = omega arith
+      by true false e c f = omega arith
+      by true true e true f = omega arith
+      by true true e false f = let g = less (limbo_share i h) e in let none : ⊥ = cc in absurd none
+
+  pub fewer : (i : ℕ) (l : List (Option Share)) → count_freed t i l ≤ count_freed u i l
+  fewer i [] = omega arith
+  fewer i (x ∷ xs) = let a = one_less i x in let b = fewer (i + 1) xs in omega arith
+
+-- as many, where they imply each other
+pub as_many : (t u : LimboRecord → Bool) → ((x : LimboRecord) → t x ≡ true → u x ≡ true) → ((x : LimboRecord) → u x ≡ true → t x ≡ true) → (i : ℕ) (l : List (Option Share)) → count_freed t i l ≡ count_freed u i l
+as_many t u a b i l = let x = fewer t u a i l in let y = fewer u t b i l in omega arith
+
 -- Tests that agree on all records in limbo count as many
 pub bag_alike : (t u : LimboRecord → Bool) (b : Book) → ((i : ℕ) (h : Share) → get_or b.mine i None ≡ Some h → h.standing ≡ Limbo → t (limbo_share i h) ≡ u (limbo_share i h)) → bag_count t b ≡ bag_count u b
 bag_alike t u b same = freed_sum t 0 b.mine ∙ sum_alike (leaves_one t) (leaves_one u) b.mine b.mine 0 each (λ j. refl) (λ j. refl) ∙ sym (freed_sum u 0 b.mine)

@@ -13,4 +13,4 @@ mod scheme;
 
 pub use chains::put_first;
 pub use holding::Holding;
-pub use scheme::Scheme;
+pub use scheme::{NONE_FREED, Scheme};

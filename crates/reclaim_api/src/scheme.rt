@@ -23,6 +23,9 @@ use crate::holding::Holding;
 use record_table::{Cover, Node, Pass, Shape, Table, TakenOut};
 use row_words::{Chain, Freed};
 
+/// Nothing left limbo.
+pub const NONE_FREED: Freed = Freed { freed: 0, spent: 0 };
+
 /// What a record manager runs of a reclaimer. A caller's pass is inside from `enter` to the `leave` that
 /// follows, and only then may records be held.
 ///

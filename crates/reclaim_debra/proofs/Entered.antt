@@ -17,10 +17,11 @@ use Rattle.record_rule.specs.ChainRows.{IsRowStep, unchained}
 use Rattle.record_rule.specs.Standings.{is_limbo, is_spent}
 use Rattle.reclaim_api.specs.Chained.{IsChainOf}
 use Rattle.reclaim_api.specs.Frames.{in_rest, is_as, IsLimboLeft, FreesInto, LeavesRest, LeavesRecords}
+use Rattle.reclaim_api.specs.StepForms.{epoch_load, epoch_exchange, announcement_load, word_store}
 use Rattle.reclaim_api.proofs.Kept.{Stays, chain_stays}
 use Rattle.guard_facts.specs.Announcing.{reading}
 use Rattle.debra_facts.specs.Rounds.{is_passed, reads_anew, debra_at}
-use Rattle.reclaim_debra.specs.Running.{announcement_load, epoch_exchange, announcing_store, place_from, epoch_load, ShiftsIfNew, same, anew, Looks, no_look, one_look, Tries, no_try, one_try, Enters}
+use Rattle.reclaim_debra.specs.Running.{place_from, ShiftsIfNew, same, anew, Looks, no_look, one_look, Tries, no_try, one_try, Enters}
 use Rattle.reclaim_debra.specs.Entering.{HasRead, HasScanned, HasAnnounced}
 use Rattle.reclaim_debra.proofs.Scans.{same_idle}
 
@@ -114,7 +115,7 @@ module _ (setup : Setup) (v u w x : View) (e place after : ℕ) (f : Freed) (rea
     tried = scanned.tried;
     tries = subst (λ (p : ℕ × ℕ). Tries setup x.own e p.0 p.1 scanned.tried) (λ k. (from k, sym to k)) (tries_then setup u.own x.own e place after scanned.tried mine scanned.tries);
     announced = announced.announced;
-    steps = announced.steps ∙ ap (λ (l : List Step). l ++ announcing_store w.own (2 * e + 1) announced.announced ∷ []) (scanned.steps ∙ ap (λ (l : List Step). l ++ scanned.looked ++ scanned.tried) read.steps)
-        ∙ ap (λ (z : ℕ × ℕ). v.own.steps ++ (epoch_load v.own e ∷ read.made) ++ scanned.looked ++ scanned.tried ++ record (announcing_store w.own (2 * e + 1) announced.announced) { word = Announced (4 * z.0); idle = z.1 } ∷ [])
+    steps = announced.steps ∙ ap (λ (l : List Step). l ++ word_store w.own 0 (2 * e + 1) announced.announced ∷ []) (scanned.steps ∙ ap (λ (l : List Step). l ++ scanned.looked ++ scanned.tried) read.steps)
+        ∙ ap (λ (z : ℕ × ℕ). v.own.steps ++ (epoch_load v.own e ∷ read.made) ++ scanned.looked ++ scanned.tried ++ record (word_store w.own 0 (2 * e + 1) announced.announced) { word = Announced (4 * z.0 + 0); idle = z.1 } ∷ [])
         (λ k. (sym caller k, sym (same_idle w.own x.own kept.mine) k));
   }

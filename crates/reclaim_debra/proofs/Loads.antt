@@ -17,14 +17,16 @@ use Rattle.record_rule.specs.Links.{with_step}
 use Rattle.record_rule.specs.Freeing.{freed_standing, leaves_limbo, leaves_one, freed_of, freed_from, count_freed, guard_loaded, LoadedControl, LoadedBy}
 use Rattle.reclaim_api.specs.Frames.{LeavesRecords}
 use Rattle.reclaim_api.specs.Bags.{bag_count}
+use Rattle.reclaim_api.specs.StepForms.{epoch_load, announcement_load}
+use Rattle.reclaim_api.proofs.Bagged.{fewer}
 use Rattle.guard_facts.specs.Announcing.{reading}
 use Rattle.debra_facts.specs.Rounds.{is_passed, one_passed, reads_anew}
 use Rattle.debra_facts.specs.Debra.{debra}
 use Rattle.reclaim_debra.specs.declared.bags.Bags.{Bags}
 use Rattle.reclaim_debra.specs.LocalParts.{is_other, KeepsBags}
-use Rattle.reclaim_debra.specs.Running.{epoch_load, announcement_load, same, Looks, no_look, one_look}
+use Rattle.reclaim_debra.specs.Running.{same, Looks, no_look, one_look}
 use Rattle.reclaim_debra.specs.Entering.{HasRead, HasLooked}
-use Rattle.reclaim_debra.specs.Stamped.{fewer, bags_stay}
+use Rattle.reclaim_debra.specs.Stamped.{bags_stay}
 
 -- Where none leaves limbo, all is known as before
 one_stays : (t : LimboRecord → Bool) (i : ℕ) (o : Option Share) → leaves_one t i o ≡ 0 → freed_of t i o ≡ o

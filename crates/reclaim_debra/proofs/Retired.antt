@@ -25,6 +25,7 @@ use Rattle.record_rule.specs.Standings.{is_spent}
 use Rattle.reclaim_api.specs.Bags.{limbo_read, bag_count}
 use Rattle.reclaim_api.specs.Chained.{IsAs, IsChainOf, refs_in}
 use Rattle.reclaim_api.specs.Frames.{in_rest, LeavesRestBut, FreesInto}
+use Rattle.reclaim_api.specs.StepForms.{stamp_store, chain_store}
 use Rattle.reclaim_api.proofs.Kept.{Stays, as_stays, chain_stays, refs_stay, row_stays, retired_keeps, retired_leaves, retired_idle, retired_limbo, retired_spent}
 use Rattle.reclaim_api.proofs.Leaving.{read_is}
 use Rattle.reclaim_api.proofs.Retiring.{retired_apart, retired_as, retired_read, retired_bag}
@@ -32,7 +33,7 @@ use Rattle.reclaim_api.proofs.Stills.{still_setup, still_caller, still_guard, st
 use Rattle.reclaim_api.proofs.StillChains.{chain_away, chain_weaker, kept_chain, pushed_chain}
 use Rattle.reclaim_debra.specs.declared.bags.Bags.{Bags}
 use Rattle.reclaim_debra.specs.LocalParts.{is_stamped, is_other, IsBag, KeepsBags, IsActive, IsGuarded, IsLocal}
-use Rattle.reclaim_debra.specs.Running.{stamp_store, chain_store, IsHeadFor, PutsAway}
+use Rattle.reclaim_debra.specs.Running.{IsHeadFor, PutsAway}
 use Rattle.reclaim_debra.specs.Stamped.{bag_still, bag_stays}
 use Rattle.reclaim_debra.proofs.Loads.{reads_first, third_low}
 

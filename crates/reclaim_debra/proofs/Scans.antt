@@ -7,7 +7,8 @@ use Rattle.record_memory.specs.declared.books.Setup.{Setup}
 use Rattle.record_memory.specs.declared.books.Book.{Book}
 use Rattle.record_memory.specs.declared.books.View.{View}
 use Rattle.record_rule.specs.Kinds.{is_idle, idle}
-use Rattle.reclaim_debra.specs.Running.{epoch_exchange, Tries, no_try, one_try}
+use Rattle.reclaim_api.specs.StepForms.{epoch_exchange}
+use Rattle.reclaim_debra.specs.Running.{Tries, no_try, one_try}
 use Rattle.reclaim_debra.specs.Entering.{IsTry, HasTried, HasLooked, HasScanned}
 
 -- as many are idle where the same is known of each record

@@ -22,19 +22,20 @@ use Rattle.record_rule.specs.ChainRows.{row_in, OwnsAway, IsStill, IsRowStep, un
 use Rattle.reclaim_api.specs.Chained.{IsAs, IsChainOf, refs_in}
 use Rattle.reclaim_api.specs.Frames.{LeavesRest, FreesInto}
 use Rattle.reclaim_api.specs.Bags.{limbo_read, bag_count, LeftLimbo, FreedInFront}
+use Rattle.reclaim_api.specs.StepForms.{epoch_load}
 use Rattle.reclaim_api.proofs.Leaving.{left_limbo, left_read, left_chain, bag_left}
 use Rattle.reclaim_api.proofs.Stills.{still_setup, still_caller, still_guard, still_idle, still_bag, still_read}
 use Rattle.reclaim_api.proofs.StillChains.{chain_away, chain_weaker, kept_chain}
-use Rattle.reclaim_api.proofs.Bagged.{bag_parts, bag_after, bag_over, chains_apart, bags_apart, bag_spent}
+use Rattle.reclaim_api.proofs.Bagged.{fewer, as_many, bag_parts, bag_after, bag_over, chains_apart, bags_apart, bag_spent}
 use Rattle.reclaim_api.proofs.Freeings.{freed_rest, free_after, frees_into}
 use Rattle.guard_facts.specs.Announcing.{reading}
 use Rattle.debra_facts.specs.Rounds.{reads_anew}
 use Rattle.debra_facts.specs.Debra.{debra}
 use Rattle.reclaim_debra.specs.declared.bags.Bags.{Bags}
 use Rattle.reclaim_debra.specs.LocalParts.{is_stamped, is_other, IsBag, KeepsBags}
-use Rattle.reclaim_debra.specs.Running.{is_old, epoch_load, anew}
+use Rattle.reclaim_debra.specs.Running.{is_old, anew}
 use Rattle.reclaim_debra.specs.Entering.{HasRead}
-use Rattle.reclaim_debra.specs.Stamped.{fewer, as_many, bag_still, empty_bag}
+use Rattle.reclaim_debra.specs.Stamped.{bag_still, empty_bag}
 use Rattle.reclaim_debra.proofs.Loads.{reads_first, reads_second, third_low}
 
 -- what is so of each is so of each in the reverse order

@@ -7,7 +7,7 @@ use Rattle.record_memory.specs.declared.steps.StepKind.TheVariants.{Exchange}
 use Rattle.record_memory.specs.declared.books.View.{View}
 use Rattle.record_rule.specs.Kinds.{control_step, made_step}
 use Rattle.guard_facts.specs.Announcing.{LAST_EPOCH}
-use Rattle.reclaim_debra.specs.Running.{epoch_exchange}
+use Rattle.reclaim_api.specs.StepForms.{epoch_exchange}
 use Rattle.reclaim_debra.specs.Entering.{HasTried}
 use Rattle.record_memory.specs.Memory.{word_at}
 use Rattle.record_rule.specs.ControlSteps.{seeing_if, own_store, StoredWord, StoredControl}

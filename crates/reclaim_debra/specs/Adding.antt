@@ -5,7 +5,8 @@ use Rattle.record_memory.specs.declared.books.Setup.{Setup}
 use Rattle.record_memory.specs.declared.books.Book.{Book}
 use Rattle.row_words.specs.declared.links.Freed.{Freed}
 use Rattle.reclaim_api.specs.Frames.{AddsSteps}
-use Rattle.reclaim_debra.specs.Running.{Enters, epoch_load}
+use Rattle.reclaim_api.specs.StepForms.{epoch_load}
+use Rattle.reclaim_debra.specs.Running.{Enters}
 
 five : (a b c d e : List Step) → a ++ b ++ c ++ d ++ e ≡ a ++ (b ++ (c ++ (d ++ e)))
 five a b c d e = simp append_assoc

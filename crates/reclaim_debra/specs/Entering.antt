@@ -4,9 +4,10 @@ use Rattle.record_memory.specs.declared.steps.Step.{Step}
 use Rattle.record_memory.specs.declared.books.Setup.{Setup}
 use Rattle.record_memory.specs.declared.books.View.{View}
 use Rattle.row_words.specs.declared.links.Freed.{Freed}
+use Rattle.reclaim_api.specs.StepForms.{epoch_load, epoch_exchange, word_store}
 use Rattle.guard_facts.specs.Announcing.{LAST_EPOCH}
 use Rattle.debra_facts.specs.Rounds.{debra_at}
-use Rattle.reclaim_debra.specs.Running.{epoch_load, epoch_exchange, announcing_store, ShiftsIfNew, Looks, Tries}
+use Rattle.reclaim_debra.specs.Running.{ShiftsIfNew, Looks, Tries}
 
 -- the epoch was loaded, and the bags have shifted where it is another one
 pub record HasRead (v : View) (e : ℕ) (f : Freed) (w : View) : Type 0 where
@@ -49,7 +50,7 @@ pub record HasScanned (setup : Setup) (v : View) (e before after : ℕ) (w : Vie
 -- the caller is active from its next step on
 pub record HasAnnounced (v : View) (e : ℕ) (w : View) : Type 0 where
   pub announced : ℕ
-  pub steps : w.own.steps ≡ v.own.steps ++ announcing_store v.own (2 * e + 1) announced ∷ []
+  pub steps : w.own.steps ≡ v.own.steps ++ word_store v.own 0 (2 * e + 1) announced ∷ []
   pub active : w.own.guard.active ≡ true
   pub start : w.own.guard.start_step ≡ length v.own.steps + 1
   pub place : w.own.guard.scan_place ≡ v.own.guard.scan_place

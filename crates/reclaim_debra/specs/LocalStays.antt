@@ -1,14 +1,11 @@
--- A local part depends on the caller's guard and on its records in limbo alone.
-use Rattle.std.proofs.Common.{◌≡◌, ◌-◌, ◌<◌, ℕ, length, get_or, Bool, true, false, Option, Some, None, sym, ap, ◌∙◌, subst}
+-- A local part depends on the caller's guard and on its records in limbo alone, so not on how many records became its own.
+use Rattle.std.proofs.Common.{◌≡◌, ◌<◌, ℕ, length, Bool, true, false, sym, refl, ap, ◌∙◌, subst}
 use Rattle.record_memory.specs.declared.books.Guard.{Guard}
 use Rattle.record_memory.specs.declared.books.Setup.{Setup}
 use Rattle.record_memory.specs.declared.books.View.{View}
-use Rattle.record_memory.specs.declared.books.Share.{Share}
-use Rattle.record_memory.specs.declared.books.Standing.{Standing}
-use Rattle.record_memory.specs.declared.books.Standing.TheVariants.{Handing, Limbo, Spent}
-use Rattle.record_rule.specs.Kinds.{share_in}
-use Rattle.reclaim_api.specs.Frames.{away_as, in_away, SamePart}
-use Rattle.reclaim_api.proofs.Kept.{Stays, limbo_away}
+use Rattle.reclaim_api.specs.Frames.{SamePart}
+use Rattle.reclaim_api.specs.Locals.{born}
+use Rattle.reclaim_api.proofs.Kept.{limbo_away}
 use Rattle.reclaim_api.proofs.Bagged.{bag_away}
 use Rattle.debra_facts.specs.Debra.{debra}
 use Rattle.reclaim_debra.specs.declared.bags.Bags.{Bags}
@@ -27,4 +24,11 @@ pub local_same : (l : Bags) (inside : Bool) (s v w : View) → SamePart debra v 
 local_same l inside s v w same h = let guard : w.own.guard ≡ v.own.guard = same.guard.guard in record {
   bags = bags_stay l v w l.place (ap (λ (k : Setup). k.records) same.setup) (limbo_away v w same.away) (λ t. bag_away t v w same.away) (ap (λ (x : Guard). x.readings) guard) (ap (λ (x : Guard). x.scan_place) guard ∙ h.bags.place) h.bags;
   guarded = guarded_same inside s v w same.setup same.caller guard h.guarded;
+}
+
+-- one record more that became its own changes nothing
+pub local_born : (l : Bags) (inside : Bool) (s v : View) → IsLocal l inside s v → IsLocal l inside s (born v)
+local_born l inside s v h = record {
+  bags = bags_stay l v (born v) l.place refl (λ i x known is. known) (λ t. refl) refl h.bags.place h.bags;
+  guarded = guarded_same inside s v (born v) refl refl refl h.guarded;
 }

@@ -1,7 +1,5 @@
 -- The steps of DEBRA's functions: what entering loads, frees, looks at, tries and announces, and what leaving and retiring store.
 use Rattle.std.specs.Prelude.{◌≡◌, ℕ, ◌+◌, ◌-◌, ◌*◌, ◌<◌, ◌≤◌, ◌==◌, nat_lt, if◌then◌else◌, List, [], ◌∷◌, ◌++◌, All, map, Bool, true, Option, Some, None, slice_index_or}
-use Rattle.record_memory.specs.declared.steps.Word.TheVariants.{Epoch, Announced, Field}
-use Rattle.record_memory.specs.declared.steps.StepKind.TheVariants.{Load, Store, Exchange}
 use Rattle.record_memory.specs.declared.steps.Step.{Step}
 use Rattle.record_memory.specs.declared.books.Setup.{Setup}
 use Rattle.record_memory.specs.declared.books.Book.{Book}
@@ -10,36 +8,15 @@ use Rattle.record_memory.specs.declared.books.Share.{Share}
 use Rattle.record_memory.specs.declared.books.Standing.TheVariants.{Limbo}
 use Rattle.row_words.specs.Refs.{RefParts}
 use Rattle.row_words.specs.declared.links.Freed.{Freed}
-use Rattle.row_words.specs.Packing.{packed_number}
 use Rattle.record_rule.specs.Facts.{LimboRecord}
 use Rattle.record_rule.specs.Kinds.{idle}
 use Rattle.record_rule.specs.ChainRows.{IsRowStep, unchained}
 use Rattle.record_rule.specs.Freeing.{limbo_share, freed_from}
-use Rattle.record_rule.specs.Asides.{chain_word}
 use Rattle.reclaim_api.specs.Bags.{bag_count, count_spent}
+use Rattle.reclaim_api.specs.StepForms.{IsNoneFreed, epoch_load, epoch_exchange, announcement_load, word_store, stamp_store, chain_store}
 use Rattle.guard_facts.specs.Announcing.{LAST_EPOCH, reading}
 use Rattle.debra_facts.specs.Rounds.{is_passed}
 use Rattle.reclaim_debra.specs.LocalParts.{is_stamped}
-
--- nothing left limbo
-abbrev pub IsNoneFreed : Freed → Type 0
-IsNoneFreed f = (f.freed ≡ 0) × (f.spent ≡ 0)
-
--- the load of the epoch that found e
-abbrev pub epoch_load : Book → ℕ → Step
-epoch_load b e = record { kind = Load; word = Epoch; held = None; found = e; left = e; idle = idle b }
-
--- the load of the first announcement word of caller k that found n
-abbrev pub announcement_load : Book → ℕ → ℕ → Step
-announcement_load b k n = record { kind = Load; word = Announced (4 * k); held = None; found = n; left = n; idle = idle b }
-
--- the exchange of the epoch from e to e + 1, where the epoch was n
-abbrev pub epoch_exchange : Book → ℕ → ℕ → Step
-epoch_exchange b e n = record { kind = Exchange; word = Epoch; held = None; found = n; left = if n == e then e + 1 else n; idle = idle b }
-
--- the store of a value in the own first announcement word, which held n
-abbrev pub announcing_store : Book → ℕ → ℕ → Step
-announcing_store b value n = record { kind = Store; word = Announced (4 * b.caller); held = None; found = n; left = value; idle = idle b }
 
 -- the epoch that was loaded isn't that of the last reading
 abbrev pub IsNew : Guard → ℕ → Type 0
@@ -97,23 +74,16 @@ pub record Enters (setup : Setup) (b : Book) (f : Freed) (c : Book) : Type 0 whe
   pub tried : List Step
   pub tries : Tries setup c epoch (place_from b.guard epoch) c.guard.scan_place tried
   pub announced : ℕ
-  pub steps : c.steps ≡ b.steps ++ epoch_load b epoch ∷ moved ++ looked ++ tried ++ announcing_store c (2 * epoch + 1) announced ∷ []
+  pub steps : c.steps ≡ b.steps ++ epoch_load b epoch ∷ moved ++ looked ++ tried ++ word_store c 0 (2 * epoch + 1) announced ∷ []
 
 -- Leaving: the last reading is announced, quiet
 pub record Leaves (setup : Setup) (b c : Book) : Type 0 where
   pub announced : ℕ
-  pub steps : c.steps ≡ b.steps ++ announcing_store b (2 * reading b.guard 0) announced ∷ []
+  pub steps : c.steps ≡ b.steps ++ word_store b 0 (2 * reading b.guard 0) announced ∷ []
 
 -- a birth makes no step
 abbrev pub Bears : Setup → Book → ℕ → Book → Type 0
 Bears setup b n c = (n ≡ 0) × (c ≡ b)
-
--- the store of a record's stamp, and that of its chain word
-abbrev pub stamp_store : Book → RefParts → ℕ → ℕ → Step
-stamp_store b r stamp found = record { kind = Store; word = Field r.index 2; held = None; found = found; left = packed_number r.generation stamp; idle = idle b }
-
-abbrev pub chain_store : Book → RefParts → Option RefParts → ℕ → Step
-chain_store b r next found = record { kind = Store; word = Field r.index 1; held = None; found = found; left = chain_word r.generation next; idle = idle b }
 
 -- the record before which another comes in the bag of this stamp: one in limbo with this stamp, and none where there is none
 abbrev pub IsHeadFor : Book → ℕ → Option RefParts → Type 0

@@ -1,9 +1,7 @@
--- Bags stay bags where their records do, and tests of stamps that follow from one another.
-use Rattle.std.proofs.Common.{◌≡◌, ℕ, ◌+◌, ◌≤◌, List, [], ◌∷◌, All, Bool, true, false, cond, Option, Some, None, sym, refl, ap, ◌∙◌, subst, arith}
-use Rattle.std.specs.Prelude.{◌&&◌}
+-- Bags stay bags where their records do.
+use Rattle.std.proofs.Common.{◌≡◌, ℕ, List, All, Bool, true, None, sym, ap, ◌∙◌, subst}
 use Rattle.std.proofs.lemmas.List.Elements.{All-nil}
 use Rattle.record_memory.specs.declared.books.View.{View}
-use Rattle.record_memory.specs.declared.books.Share.{Share}
 use Rattle.record_memory.specs.declared.books.Standing.TheVariants.{Limbo}
 use Rattle.row_words.specs.Refs.{RefParts}
 use Rattle.row_words.specs.Rows.{Row}
@@ -11,33 +9,11 @@ use Rattle.row_words.specs.declared.links.Chain.{Chain}
 use Rattle.limbo_bags.proofs.Chains.{chain_empty}
 use Rattle.record_rule.specs.ChainRows.{row_in}
 use Rattle.record_rule.specs.Facts.{LimboRecord}
-use Rattle.record_rule.specs.Standings.{is_limbo}
-use Rattle.record_rule.specs.Freeing.{limbo_share, leaves_one, count_freed}
 use Rattle.reclaim_api.specs.Bags.{limbo_read, bag_count}
 use Rattle.reclaim_api.specs.Chained.{IsAs, IsChainOf, refs_in}
 use Rattle.reclaim_api.proofs.Kept.{Stays, row_stays, chain_stays, refs_stay}
 use Rattle.reclaim_debra.specs.declared.bags.Bags.{Bags}
 use Rattle.reclaim_debra.specs.LocalParts.{is_stamped, is_other, IsBag, KeepsBags}
-
--- one test lets no more pass than another that it implies
-module _ (t u : LimboRecord → Bool) (less : (x : LimboRecord) → t x ≡ true → u x ≡ true) where
-  one_less : (i : ℕ) (o : Option Share) → leaves_one t i o ≤ leaves_one u i o
-  one_less i None = omega arith
-  one_less i (Some h) = by (is_limbo h.standing) (t (limbo_share i h)) refl (u (limbo_share i h)) refl
-    where
-      by : (a b : Bool) → t (limbo_share i h) ≡ b → (c : Bool) → u (limbo_share i h) ≡ c → cond (a && b) 1 0 ≤ cond (a && c) 1 0
-      by false b e c f = omega arith
-      by true false e c f = omega arith
-      by true true e true f = omega arith
-      by true true e false f = let g = less (limbo_share i h) e in let none : ⊥ = cc in absurd none
-
-  pub fewer : (i : ℕ) (l : List (Option Share)) → count_freed t i l ≤ count_freed u i l
-  fewer i [] = omega arith
-  fewer i (x ∷ xs) = let a = one_less i x in let b = fewer (i + 1) xs in omega arith
-
--- as many, where they imply each other
-pub as_many : (t u : LimboRecord → Bool) → ((x : LimboRecord) → t x ≡ true → u x ≡ true) → ((x : LimboRecord) → u x ≡ true → t x ≡ true) → (i : ℕ) (l : List (Option Share)) → count_freed t i l ≡ count_freed u i l
-as_many t u a b i l = let x = fewer t u a i l in let y = fewer u t b i l in omega arith
 
 -- a bag whose records are in limbo still, and which has all of its stamp
 pub bag_still : (v w : View) (n : ℕ) (bag : Chain) → IsBag v n bag → IsChainOf Limbo w bag → refs_in w bag ≡ refs_in v bag → ((r : RefParts) → IsAs Limbo v r → limbo_read w r ≡ limbo_read v r) → bag_count (is_stamped n) w.own ≡ bag_count (is_stamped n) v.own → IsBag w n bag

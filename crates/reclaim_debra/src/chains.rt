@@ -1,20 +1,17 @@
 // The caller's bags and its free chain through the rows of the table.
-ghost use Rattle.std.specs.Prelude.{◌≡◌, ◌∷◌, ◌++◌, None, length, reverse};
+ghost use Rattle.std.specs.Prelude.{◌≡◌, ◌++◌, None, length, reverse};
 ghost use Rattle.std.specs.List.{count_by, filter};
 ghost use Rattle.row_words.specs.declared.links.Chain.{Chain};
-ghost use Rattle.limbo_bags.specs.Chains.{IsApart};
 ghost use Rattle.limbo_bags.specs.Wholes.{AreApart, is_last, is_reusable};
-ghost use Rattle.record_rule.specs.Asides.{chain_word};
-ghost use Rattle.record_rule.specs.ChainRows.{OwnsAway, IsStill};
-ghost use Rattle.record_rule.specs.Kinds.{stored};
+ghost use Rattle.record_rule.specs.ChainRows.{IsStill};
 ghost use Rattle.record_table.specs.Handles.{view, IsPassOf, IsSamePass};
 ghost use Rattle.reclaim_api.specs.Chained.{refs_in};
-ghost use Rattle.reclaim_debra.specs.Owned.{IsRowChain, IsRowKept};
+ghost use Rattle.reclaim_api.specs.Owned.{IsRowChain, IsRowKept};
 
 use crate::Debra;
-use limbo_bags::{move_all, push};
+use limbo_bags::move_all;
 use record_table::{Pass, Rows, Shape, Table};
-use row_words::{Chain, Freed, Ref};
+use row_words::{Chain, Freed};
 
 // Puts the records of a bag in front of the free ones, but for those that are spent. The bag is empty then.
 pub(crate) fn free_bag<S: Shape>(
@@ -43,29 +40,4 @@ pub(crate) fn free_bag<S: Shape>(
     let freed = move_all(&mut rows, bag, free);
     let Rows { table: _, pass: _ } = rows;
     freed
-}
-
-// Puts a record in front of a bag.
-pub(crate) fn put_first<S: Shape>(
-    table: &Table<S, Debra>,
-    pass: &mut Pass<S, Debra>,
-    bag: &mut Chain,
-    r: Ref,
-)
-    requires pass { IsPassOf table.now pass.old }
-    requires bag { IsRowChain table.now pass.old bag.old }
-    requires owned { OwnsAway (view pass.old) r }
-    requires apart { IsApart r (refs_in (view pass.old) bag.old) }
-    ensures pass { IsSamePass pass.old pass.new }
-    ensures still { IsStill (view pass.old) (view pass.new) }
-    ensures refs { refs_in (view pass.new) bag.new ≡ r ∷ refs_in (view pass.old) bag.old }
-    ensures list { IsRowChain table.now pass.new bag.new }
-    ensures others { (other : Chain) → IsRowChain table.now pass.old other
-        → IsApart r (refs_in (view pass.old) other)
-        → IsRowKept table.now pass.old pass.new other }
-    ensures made { view pass.new ≡ stored (view pass.old) r.index 1 (chain_word r.generation bag.old.head) }
-{
-    let mut rows = Rows { table, pass };
-    push(&mut rows, bag, r);
-    let Rows { table: _, pass: _ } = rows;
 }

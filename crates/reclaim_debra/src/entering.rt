@@ -12,6 +12,7 @@ ghost use Rattle.reclaim_debra.specs.Entering.{HasRead, HasLooked, HasTried, Has
 
 use crate::chains::free_bag;
 use crate::{Bags, Debra};
+use reclaim_api::NONE_FREED;
 use record_memory::{EPOCH, announcement};
 use record_table::{Pass, Shape, Table};
 use row_words::{Chain, Freed};
@@ -19,9 +20,6 @@ use std::mem;
 
 // The last epoch, the greatest number that a word of 44 bits holds.
 const LAST_EPOCH: u64 = 17_592_186_044_415;
-
-// Nothing left limbo.
-pub(crate) const NONE_FREED: Freed = Freed { freed: 0, spent: 0 };
 
 // Loads the epoch. Where it isn't the last reading, the records of the third bag are freed, and the bags shift.
 pub(crate) fn read_epoch<S: Shape>(

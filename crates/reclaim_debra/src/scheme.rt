@@ -8,10 +8,9 @@ ghost use Rattle.reclaim_debra.specs.Running.{Enters, Leaves, Bears, PutsAway};
 ghost use Rattle.reclaim_debra.specs.Adding.{enters_more};
 ghost use Rattle.reclaim_debra.specs.LocalStays.{local_same};
 
-use crate::chains::put_first;
-use crate::entering::{NONE_FREED, announce, read_epoch, scan, store_own};
+use crate::entering::{announce, read_epoch, scan, store_own};
 use crate::{Bags, Debra};
-use reclaim_api::{Holding, Scheme};
+use reclaim_api::{Holding, NONE_FREED, Scheme, put_first};
 use record_table::{Held, Node, Pass, Shape, Table, TakenOut};
 use row_words::{Chain, Freed, MARK};
 

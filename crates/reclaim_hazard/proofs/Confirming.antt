@@ -25,7 +25,8 @@ use Rattle.hazard_facts.specs.Pointers.{hazard, named_by}
 use Rattle.reclaim_api.specs.declared.holding.Holding.{Holding}
 use Rattle.reclaim_api.specs.declared.holding.Holding.TheVariants.{Null, Held, Marked, Moved}
 use Rattle.reclaim_api.specs.Holds.{IsElsewhere, HasSeen, HasReached}
-use Rattle.reclaim_hazard.specs.Running.{word_store, ConfirmsWith, Confirms}
+use Rattle.reclaim_api.specs.StepForms.{word_store}
+use Rattle.reclaim_hazard.specs.Running.{ConfirmsWith, Confirms}
 use Rattle.reclaim_hazard.specs.Steps.{stored_own, HasLoadedAgain, AnswersBy}
 use Rattle.reclaim_hazard.proofs.Seeing.{near_same, has_seen}
 use Rattle.reclaim_hazard.proofs.Loads.{has_started, note_else, start_seen, words_still}

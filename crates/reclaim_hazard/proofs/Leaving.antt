@@ -3,7 +3,7 @@ use Rattle.std.proofs.Common.{◌≡◌, ℕ, List, [], ◌∷◌, ◌++◌, app
 use Rattle.record_memory.specs.declared.steps.Step.{Step}
 use Rattle.record_memory.specs.declared.books.View.{View}
 use Rattle.record_rule.specs.Kinds.{idle}
-use Rattle.reclaim_hazard.specs.Running.{word_store}
+use Rattle.reclaim_api.specs.StepForms.{word_store}
 use Rattle.reclaim_hazard.specs.Steps.{stored_own}
 
 pub three : (a b c d : List Step) → ((a ++ b) ++ c) ++ d ≡ a ++ (b ++ (c ++ d))

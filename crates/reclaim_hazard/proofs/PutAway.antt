@@ -15,9 +15,10 @@ use Rattle.record_rule.specs.Links.{retired, retired_share}
 use Rattle.record_rule.specs.Standings.{is_limbo, is_spent}
 use Rattle.record_rule.proofs.HandingOut.{known_within}
 use Rattle.reclaim_api.specs.Frames.{in_rest, had, FreesInto, LeavesRest, LeavesRestBut}
+use Rattle.reclaim_api.specs.StepForms.{IsNoneFreed, stamp_store, chain_store}
 use Rattle.reclaim_api.proofs.Kept.{retired_leaves, retired_idle, retired_limbo, retired_spent}
 use Rattle.reclaim_api.proofs.Stills.{still_moves, still_rest, still_idle, still_had, still_left}
-use Rattle.reclaim_hazard.specs.Running.{IsNoneFreed, words_of, Scans, ScansIfFull, waits, scans, bagged_share, PutsAway, stamp_store, chain_store}
+use Rattle.reclaim_hazard.specs.Running.{words_of, Scans, ScansIfFull, waits, scans, bagged_share, PutsAway}
 use Rattle.reclaim_hazard.specs.Steps.{HasKept}
 
 module _ (v u : View) (r : RefParts) (kept : HasKept v r u) where
@@ -61,16 +62,16 @@ module _ (v u : View) (r : RefParts) (kept : HasKept v r u) where
   mine_is = ap (λ (x : View). x.own.mine) view_is ∙ set-set v.own.mine (r.index - 1) (Some (retired_share kept.share value)) (Some (bagged_share kept.share r kept.next))
 
   abbrev put_steps : List Step
-  put_steps = stamp_store v.own r (get_or kept.share.words 2 0) ∷ chain_store v.own r kept.next (get_or (retired_share kept.share value).words 1 0) ∷ []
+  put_steps = stamp_store v.own r 0 (get_or kept.share.words 2 0) ∷ chain_store v.own r kept.next (get_or (retired_share kept.share value).words 1 0) ∷ []
 
   steps_are : u.own.steps ≡ v.own.steps ++ put_steps
   steps_are = ap (λ (x : View). x.own.steps) view_is ∙ append_assoc v.own.steps _ _
-      ∙ ap (λ (n : ℕ). v.own.steps ++ stamp_store v.own r (get_or kept.share.words 2 0) ∷ record (chain_store v.own r kept.next (get_or (retired_share kept.share value).words 1 0)) { idle = n } ∷ []) (retired_idle v r kept.share value kept.taken)
+      ∙ ap (λ (n : ℕ). v.own.steps ++ stamp_store v.own r 0 (get_or kept.share.words 2 0) ∷ record (chain_store v.own r kept.next (get_or (retired_share kept.share value).words 1 0)) { idle = n } ∷ []) (retired_idle v r kept.share value kept.taken)
 
   idle_is : idle u.own ≡ idle v.own
   idle_is = still_idle then u kept.still ∙ retired_idle v r kept.share value kept.taken
 
-  more : (made : List Step) → (v.own.steps ++ put_steps) ++ made ≡ v.own.steps ++ stamp_store v.own r (get_or kept.share.words 2 0) ∷ chain_store v.own r kept.next (get_or (retired_share kept.share value).words 1 0) ∷ made
+  more : (made : List Step) → (v.own.steps ++ put_steps) ++ made ≡ v.own.steps ++ stamp_store v.own r 0 (get_or kept.share.words 2 0) ∷ chain_store v.own r kept.next (get_or (retired_share kept.share value).words 1 0) ∷ made
   more made = append_assoc v.own.steps put_steps made
 
   module _ (setup : Setup) where

@@ -1,16 +1,15 @@
--- A local part depends on the caller's guard and on its records in limbo alone.
-use Rattle.std.proofs.Common.{◌≡◌, ◌-◌, ℕ, List, length, count_by, get_or, Bool, true, false, Option, Some, None, sym, refl, ap, ◌∙◌}
+-- A local part depends on the caller's guard and on its records in limbo alone, so not on how many records became its own.
+use Rattle.std.proofs.Common.{◌≡◌, ◌-◌, ℕ, List, length, count_by, get_or, Bool, true, false, Option, None, sym, refl, ap, ◌∙◌}
 use Rattle.record_memory.specs.declared.books.Guard.{Guard}
 use Rattle.record_memory.specs.declared.books.Setup.{Setup}
 use Rattle.record_memory.specs.declared.books.View.{View}
 use Rattle.record_memory.specs.declared.books.Share.{Share}
-use Rattle.record_memory.specs.declared.books.Standing.{Standing}
-use Rattle.record_memory.specs.declared.books.Standing.TheVariants.{Handing, Limbo, Spent}
+use Rattle.record_memory.specs.declared.books.Standing.TheVariants.{Limbo}
 use Rattle.record_rule.specs.Facts.{Moment}
 use Rattle.record_rule.specs.Guards.{started_if}
-use Rattle.record_rule.specs.Kinds.{share_in}
 use Rattle.record_rule.specs.Standings.{is_limbo}
-use Rattle.reclaim_api.specs.Frames.{away_as, in_away, is_as, had, SamePart}
+use Rattle.reclaim_api.specs.Frames.{is_as, had, SamePart}
+use Rattle.reclaim_api.specs.Locals.{born}
 use Rattle.reclaim_api.proofs.Kept.{Stays, chain_stays, limbo_away}
 use Rattle.reclaim_api.proofs.Bagged.{bag_all, bag_away}
 use Rattle.hazard_facts.specs.Pointers.{hazard}
@@ -49,3 +48,7 @@ local_same l inside s v w same h = let g = same.guard in local_by l inside insid
     (bag_all w.own ∙ bag_away (λ x. true) v w same.away ∙ sym (bag_all v.own))
     (ap (λ (x : Guard). length x.announced) g.guard ∙ ap (λ (x : List ℕ). length x) (words_on g.first g.moment v.own.guard g.step))
     (ap (λ (x : Guard). x.loaded) g.guard ∙ loaded_on g.first g.moment v.own.guard g.step) h
+
+-- one record more that became its own changes nothing
+pub local_born : (l : Retired) (inside : Bool) (s v : View) → IsLocal l inside s v → IsLocal l inside s (born v)
+local_born l inside s v h = local_on l inside inside s s v (born v) refl refl refl refl refl h

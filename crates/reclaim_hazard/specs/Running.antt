@@ -1,7 +1,7 @@
 -- The steps of the functions of hazard pointers: a try to hold names its target between two loads of the link, leaving clears the names, and retiring scans them once the bag is full.
 use Rattle.std.specs.Prelude.{◌≡◌, ◌≢◌, ℕ, ◌+◌, ◌-◌, ◌*◌, ◌<◌, ◌≤◌, List, [], ◌∷◌, ◌++◌, length, map, All, Bool, not, Option, Some, None, slice_index_or, slice_set}
-use Rattle.record_memory.specs.declared.steps.Word.TheVariants.{Announced, Field}
-use Rattle.record_memory.specs.declared.steps.StepKind.TheVariants.{Load, Store}
+use Rattle.record_memory.specs.declared.steps.Word.TheVariants.{Announced}
+use Rattle.record_memory.specs.declared.steps.StepKind.TheVariants.{Load}
 use Rattle.record_memory.specs.declared.steps.Step.{Step}
 use Rattle.record_memory.specs.declared.books.Setup.{Setup}
 use Rattle.record_memory.specs.declared.books.Book.{Book}
@@ -23,11 +23,8 @@ use Rattle.reclaim_api.specs.declared.holding.Holding.TheVariants.{Null, Held, M
 use Rattle.reclaim_api.specs.Frames.{had}
 use Rattle.reclaim_api.specs.Bags.{count_spent}
 use Rattle.reclaim_api.specs.LinkLoads.{link_load}
+use Rattle.reclaim_api.specs.StepForms.{IsNoneFreed, word_store, stamp_store, chain_store}
 use Rattle.hazard_facts.specs.Pointers.{scan_word, is_named}
-
--- nothing left limbo
-abbrev pub IsNoneFreed : Freed → Type 0
-IsNoneFreed f = (f.freed ≡ 0) × (f.spent ≡ 0)
 
 -- entering makes no step
 abbrev pub Enters : Setup → Book → Freed → Book → Type 0
@@ -36,10 +33,6 @@ Enters setup b f c = (c ≡ b) × IsNoneFreed f
 -- nor does a birth
 abbrev pub Bears : Setup → Book → ℕ → Book → Type 0
 Bears setup b n c = (n ≡ 0) × (c ≡ b)
-
--- the store of a value in the own word of a place, which held n
-abbrev pub word_store : Book → ℕ → ℕ → ℕ → Step
-word_store b place value n = record { kind = Store; word = Announced (4 * b.caller + place); held = None; found = n; left = value; idle = idle b }
 
 -- Leaving: the words of the three places are cleared, in order
 pub record Leaves (setup : Setup) (b c : Book) : Type 0 where
@@ -83,13 +76,6 @@ pub record Confirms (place : ℕ) (from : Node) (field : ℕ) (b : Book) (h : Ho
 pub data Reaches (setup : Setup) (place : ℕ) (from : Node) (field : ℕ) (b : Book) (h : Holding) (c : Book) : Type 0 where
   stops : Stops from field b h c → Reaches setup place from field b h c
   confirms : Confirms place from field b h c → Reaches setup place from field b h c
-
--- the store of a record's stamp, and that of its chain word
-abbrev pub stamp_store : Book → RefParts → ℕ → Step
-stamp_store b r n = record { kind = Store; word = Field r.index 2; held = None; found = n; left = packed_number r.generation 0; idle = idle b }
-
-abbrev pub chain_store : Book → RefParts → Option RefParts → ℕ → Step
-chain_store b r next n = record { kind = Store; word = Field r.index 1; held = None; found = n; left = chain_word r.generation next; idle = idle b }
 
 -- the record before which another comes in the bag: one in limbo, and none where there is none
 abbrev pub IsHeadFor : Book → Option RefParts → Type 0
@@ -148,4 +134,4 @@ pub record PutsAway (setup : Setup) (b : Book) (r : RefParts) (f : Freed) (c : B
   pub before : IsHeadFor b next
   pub made : List Step
   pub scan : ScansIfFull setup b (slice_set b.mine (r.index - 1) (Some (bagged_share share r next))) made f c
-  pub steps : c.steps ≡ b.steps ++ stamp_store b r stamped ∷ chain_store b r next chained ∷ made
+  pub steps : c.steps ≡ b.steps ++ stamp_store b r 0 stamped ∷ chain_store b r next chained ∷ made

@@ -1,48 +1,19 @@
 // The caller's bag and its free chain through the rows of the table.
-ghost use Rattle.std.specs.Prelude.{◌≡◌, ◌∷◌, ◌++◌, reverse};
+ghost use Rattle.std.specs.Prelude.{◌≡◌, ◌++◌, reverse};
 ghost use Rattle.std.specs.List.{count_by, filter};
-ghost use Rattle.row_words.specs.declared.links.Chain.{Chain};
-ghost use Rattle.limbo_bags.specs.Chains.{IsApart};
 ghost use Rattle.limbo_bags.specs.Wholes.{AreApart};
-ghost use Rattle.record_rule.specs.Asides.{chain_word};
-ghost use Rattle.record_rule.specs.ChainRows.{OwnsAway, IsStill};
-ghost use Rattle.record_rule.specs.Kinds.{stored};
+ghost use Rattle.record_rule.specs.ChainRows.{IsStill};
 ghost use Rattle.record_table.specs.Handles.{view, IsPassOf, IsSamePass};
 ghost use Rattle.reclaim_api.specs.Chained.{refs_in};
-ghost use Rattle.reclaim_hazard.specs.Owned.{IsRowChain, IsRowKept};
+ghost use Rattle.reclaim_api.specs.Owned.{IsRowChain};
 ghost use Rattle.reclaim_hazard.specs.Sifting.{stays, goes, returns, is_lost};
 
 use crate::Hazard;
 use crate::naming::Named;
 use arrayvec::ArrayVec;
-use limbo_bags::{push, sift};
+use limbo_bags::sift;
 use record_table::{Pass, Rows, Shape, Table};
-use row_words::{Chain, Freed, Ref};
-
-// Puts a record in front of the bag.
-pub(crate) fn put_first<S: Shape>(
-    table: &Table<S, Hazard>,
-    pass: &mut Pass<S, Hazard>,
-    bag: &mut Chain,
-    r: Ref,
-)
-    requires pass { IsPassOf table.now pass.old }
-    requires bag { IsRowChain table.now pass.old bag.old }
-    requires owned { OwnsAway (view pass.old) r }
-    requires apart { IsApart r (refs_in (view pass.old) bag.old) }
-    ensures pass { IsSamePass pass.old pass.new }
-    ensures still { IsStill (view pass.old) (view pass.new) }
-    ensures refs { refs_in (view pass.new) bag.new ≡ r ∷ refs_in (view pass.old) bag.old }
-    ensures list { IsRowChain table.now pass.new bag.new }
-    ensures others { (other : Chain) → IsRowChain table.now pass.old other
-        → IsApart r (refs_in (view pass.old) other)
-        → IsRowKept table.now pass.old pass.new other }
-    ensures made { view pass.new ≡ stored (view pass.old) r.index 1 (chain_word r.generation bag.old.head) }
-{
-    let mut rows = Rows { table, pass };
-    push(&mut rows, bag, r);
-    let Rows { table: _, pass: _ } = rows;
-}
+use row_words::{Chain, Freed};
 
 // Puts the records of the bag that none of the words names in front of the free ones, but for those that are spent. The
 // others stay in the bag.

@@ -18,9 +18,10 @@ ghost use Rattle.reclaim_hazard.specs.LocalParts.{IsLocal};
 ghost use Rattle.reclaim_hazard.specs.Running.{Scans};
 ghost use Rattle.reclaim_hazard.specs.Steps.{HasKept, HasLoadedWords, HasScanned};
 
-use crate::chains::{put_first, sift_bag};
+use crate::chains::sift_bag;
 use crate::{Hazard, Retired};
 use arrayvec::ArrayVec;
+use reclaim_api::put_first;
 use record_memory::announcement;
 use record_table::{Pass, Shape, Table, TakenOut};
 use row_words::{Chain, Freed};

@@ -10,12 +10,9 @@ ghost use Rattle.reclaim_hazard.specs.Adding.{reaches_more};
 use crate::reaching::{answer, generation_of, load_again, same_node, store_own};
 use crate::retiring::{keep, scan};
 use crate::{Hazard, Retired};
-use reclaim_api::{Holding, Scheme};
+use reclaim_api::{Holding, NONE_FREED, Scheme};
 use record_table::{Held, Node, Pass, Shape, Table, TakenOut};
 use row_words::{Chain, Freed, MARK};
-
-// Nothing left limbo.
-const NONE_FREED: Freed = Freed { freed: 0, spent: 0 };
 
 impl Scheme for Hazard {
     const PLACES: u32 = 3;

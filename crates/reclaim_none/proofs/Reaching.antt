@@ -1,5 +1,5 @@
 -- What a caller without reclamation holds once it loaded a link: its guard started with its first load or before.
-use Rattle.std.proofs.Common.{◌≡◌, ℕ, ◌+◌, ◌<◌, ◌≤◌, length, Bool, true, false, not, nat_lt, sym, ap, ◌∙◌, subst, refl, arith, Some}
+use Rattle.std.proofs.Common.{◌≡◌, ℕ, ◌+◌, ◌<◌, ◌≤◌, length, Bool, true, false, not, nat_lt, ap, ◌∙◌, refl, arith, Some}
 use Rattle.std.proofs.lemmas.Bool.{ltb-true}
 use Rattle.record_memory.specs.declared.books.View.{View}
 use Rattle.record_memory.specs.declared.books.Guard.{Guard}

@@ -1,17 +1,10 @@
 -- The steps of the functions of no reclamation: entering, leaving and a birth make none, a try to hold is one load, and retiring one store.
-use Rattle.std.specs.Prelude.{◌≡◌, ℕ, [], ◌∷◌, ◌++◌, None}
-use Rattle.record_memory.specs.declared.steps.Word.TheVariants.{Field}
-use Rattle.record_memory.specs.declared.steps.StepKind.TheVariants.{Store}
+use Rattle.std.specs.Prelude.{◌≡◌, ℕ, [], ◌∷◌, ◌++◌}
 use Rattle.record_memory.specs.declared.books.Setup.{Setup}
 use Rattle.record_memory.specs.declared.books.Book.{Book}
 use Rattle.row_words.specs.Refs.{RefParts}
 use Rattle.row_words.specs.declared.links.Freed.{Freed}
-use Rattle.row_words.specs.Packing.{packed_number}
-use Rattle.record_rule.specs.Kinds.{idle}
-
--- nothing left limbo
-abbrev pub IsNoneFreed : Freed → Type 0
-IsNoneFreed f = (f.freed ≡ 0) × (f.spent ≡ 0)
+use Rattle.reclaim_api.specs.StepForms.{IsNoneFreed, stamp_store}
 
 -- no step is made
 abbrev pub Enters : Setup → Book → Freed → Book → Type 0
@@ -27,4 +20,4 @@ Bears setup b n c = (n ≡ 0) × (c ≡ b)
 pub record PutsAway (setup : Setup) (b : Book) (r : RefParts) (f : Freed) (c : Book) : Type 0 where
   pub none : IsNoneFreed f
   pub found : ℕ
-  pub steps : c.steps ≡ b.steps ++ record { kind = Store; word = Field r.index 2; held = None; found = found; left = packed_number r.generation 0; idle = idle b } ∷ []
+  pub steps : c.steps ≡ b.steps ++ stamp_store b r 0 found ∷ []

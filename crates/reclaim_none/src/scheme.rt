@@ -7,12 +7,9 @@ ghost use Rattle.reclaim_api.specs.LinkLoads.{ReachesByLoad};
 ghost use Rattle.reclaim_none.specs.Running.{Enters, Leaves, Bears, PutsAway};
 
 use crate::NoReclaim;
-use reclaim_api::{Holding, Scheme};
+use reclaim_api::{Holding, NONE_FREED, Scheme};
 use record_table::{Held, Node, Pass, Shape, Table, TakenOut};
 use row_words::{Chain, Freed, MARK};
-
-// Nothing left limbo.
-const NONE_FREED: Freed = Freed { freed: 0, spent: 0 };
 
 impl Scheme for NoReclaim {
     const PLACES: u32 = 8;

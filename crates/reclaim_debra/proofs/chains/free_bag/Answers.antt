@@ -1,5 +1,5 @@
 use Rattle.std.proofs.Common.{ap, sym}
-use Rattle.reclaim_debra.proofs.Rows.{chain_back, kept_back}
+use Rattle.reclaim_api.proofs.Rows.{chain_back, kept_back}
 use Rattle.reclaim_debra.proofs.chains.free_bag.Goals as goal
 
 pub returns-clause-list : goal.returns-clause-list

@@ -5,7 +5,7 @@ use Rattle.row_words.specs.declared.links.Chain.{Chain}
 use Rattle.reclaim_debra.specs.LocalParts.{KeepsBags}
 use Rattle.reclaim_debra.proofs.Loads.{again_bags, again_rest, again_setup, again_read}
 use Rattle.reclaim_debra.proofs.Entered.{records_free, records_rest, records_frees}
-use Rattle.reclaim_debra.proofs.Rows.{pass_still}
+use Rattle.reclaim_api.proofs.Rows.{pass_still}
 use Rattle.reclaim_debra.proofs.Shifting.{HasMoved, third_rows, free_rows, free_apart, shift_bags, shift_free, shift_frees, shift_rest, shift_read}
 use Rattle.reclaim_debra.proofs.entering.read_epoch.Goals as goal
 

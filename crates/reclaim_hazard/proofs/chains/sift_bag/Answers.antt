@@ -1,5 +1,5 @@
 use Rattle.std.proofs.Common.{ap, sym}
-use Rattle.reclaim_hazard.proofs.Rows.{chain_back}
+use Rattle.reclaim_api.proofs.Rows.{chain_back}
 use Rattle.reclaim_hazard.proofs.chains.sift_bag.Goals as goal
 
 pub returns-clause-bag_list : goal.returns-clause-bag_list

@@ -6,7 +6,7 @@ use Rattle.record_rule.specs.ChainRows.{row_in, OwnsAway}
 use Rattle.record_rule.specs.Links.{retired}
 use Rattle.record_table.specs.Handles.{view, since, IsPassOf}
 use Rattle.reclaim_api.specs.Chained.{refs_in}
-use Rattle.reclaim_debra.proofs.Rows.{pass_still}
+use Rattle.reclaim_api.proofs.Rows.{pass_still}
 use Rattle.reclaim_debra.proofs.Retired.{HasPut, put_then, then_rows, then_owns, then_apart, put_local, put_free, put_frees, put_rest, put_steps}
 use Rattle.reclaim_debra.proofs.scheme.DebraScheme.put_away.Goals as goal
 
