@@ -139,8 +139,8 @@ module _ (m : Manner) (k : Setup) where
   gets_drew (from_draw d c none came drew more) = omega (arith, more)
 
   takes_one : (b c : Book) (r : RefParts) → Takes m k b r c → TookOne b c
-  takes_one b c r (from_spare n one fewer same) = record { took = inl (fewer, same) }
-  takes_one b c r (handed d e birth none gets bears hands same left) = record { took = inr (none, left, omega (arith, gets_drew gets, same.drawn)) }
+  takes_one b c r (from_spare d birth n bears one fewer counts) = record { took = inl (fewer, counts.drawn) }
+  takes_one b c r (handed d e birth none gets same bears hands counts left) = record { took = inr (none, left, omega (arith, gets_drew gets, counts.drawn)) }
 
   -- the try has a record, got by it or by an earlier one
   record_taken : (own : RefParts) (hand : Option RefParts) (gs : List Event) (a b c : Book) → HasRecord own hand gs → HasTaken hand a b → Trail m k gs b c → TookOne a c
