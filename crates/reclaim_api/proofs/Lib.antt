@@ -7,6 +7,8 @@ pub mod StillChains
 pub mod Counting
 pub mod Bagged
 pub mod Retiring
+pub mod Putting
 pub mod Freeings
 pub mod Reached
 pub mod Rows
+pub mod Words
