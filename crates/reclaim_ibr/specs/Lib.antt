@@ -1,1 +1,3 @@
 pub mod LocalParts
+pub mod Running
+pub mod Steps

@@ -9,10 +9,7 @@
 //! After Wen, Izraelevitz, Cai, Beadle and Scott, "Interval-based memory reclamation" (PPoPP 2018).
 #![tactic(auto)]
 
-mod chains;
 mod interval;
-mod meeting;
-mod retiring;
 
 pub use interval::Interval;
 use record_table::Cover;
