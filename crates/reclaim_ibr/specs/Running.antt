@@ -42,8 +42,8 @@ pub record Advances (b : Book) (made : List Step) : Type 0 where
 
 -- exactly at each sixteenth birth
 pub data AdvancesAtTimes (b : Book) (made : List Step) : Type 0 where
-  advances : (b.moves.births + 1) % EACH ≡ 0 → Advances b made → AdvancesAtTimes b made
-  waits : (b.moves.births + 1) % EACH ≢ 0 → made ≡ [] → AdvancesAtTimes b made
+  at_time : (b.moves.births + 1) % EACH ≡ 0 → Advances b made → AdvancesAtTimes b made
+  between : (b.moves.births + 1) % EACH ≢ 0 → made ≡ [] → AdvancesAtTimes b made
 
 -- A birth is what the last load of the epoch found
 pub record Bears (setup : Setup) (b : Book) (n : ℕ) (c : Book) : Type 0 where

@@ -9,7 +9,11 @@
 //! After Wen, Izraelevitz, Cai, Beadle and Scott, "Interval-based memory reclamation" (PPoPP 2018).
 #![tactic(auto)]
 
+mod announcing;
+mod births;
+mod epochs;
 mod interval;
+mod reaching;
 
 pub use interval::Interval;
 use record_table::Cover;
