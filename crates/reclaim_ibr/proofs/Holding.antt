@@ -25,7 +25,13 @@ use Rattle.reclaim_api.proofs.Reached.{started_before}
 use Rattle.reclaim_ibr.specs.Steps.{epoch_loaded, HasLoadedEpoch}
 use Rattle.reclaim_ibr.proofs.Confirmed.{confirmed_rest, reached_else, read_else}
 
--- a link without a mark that leads to a record
+-- what a link lets hold: nothing where it has a mark or leads nowhere
+pub marked_none : (n : ℕ) → mark_bit (link_in n) ≡ 1 → target_of (link_in n) ≡ None
+marked_none n marked = ap (λ (b : ℕ). cond (eqb b 1) None (link_in n).target) marked
+
+pub missing_none : (n : ℕ) → mark_bit (link_in n) ≡ 0 → (link_in n).target ≡ None → target_of (link_in n) ≡ None
+missing_none n clear to = ap (λ (b : ℕ). cond (eqb b 1) None (link_in n).target) clear ∙ to
+
 leads_to : (n : ℕ) (target : RefParts) → mark_bit (link_in n) ≡ 0 → (link_in n).target ≡ Some target → target_of (link_in n) ≡ Some target
 leads_to n target clear to = ap (λ (b : ℕ). cond (eqb b 1) None (link_in n).target) clear ∙ to
 

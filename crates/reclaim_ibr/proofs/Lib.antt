@@ -5,3 +5,5 @@ pub mod Loads
 pub mod Storing
 pub mod Locals
 pub mod Bearing
+pub mod Entering
+pub mod Trying
