@@ -4,13 +4,12 @@ use Rattle.record_memory.specs.declared.steps.Step.{Step}
 use Rattle.record_memory.specs.declared.books.Setup.{Setup}
 use Rattle.record_memory.specs.declared.books.Book.{Book}
 use Rattle.record_memory.specs.declared.books.View.{View}
-use Rattle.record_memory.specs.declared.books.Share.{Share}
-use Rattle.std.specs.Prelude.{Option, count_by}
+use Rattle.std.specs.Prelude.{count_by}
 use Rattle.record_rule.specs.Kinds.{made_step, is_idle, idle}
 use Rattle.guard_facts.specs.Announcing.{LAST_EPOCH}
 use Rattle.reclaim_api.specs.StepForms.{epoch_load, epoch_exchange}
 use Rattle.reclaim_ibr.specs.Running.{one_try, no_try, Advances, AdvancesAtTimes, Bears}
-use Rattle.reclaim_ibr.specs.Steps.{epoch_read, HasReadEpoch}
+use Rattle.reclaim_ibr.specs.Steps.{HasReadEpoch}
 
 -- as many are idle where the same is known of each record
 pub same_idle : (b c : Book) → c.mine ≡ b.mine → idle c ≡ idle b

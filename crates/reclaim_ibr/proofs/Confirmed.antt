@@ -1,5 +1,5 @@
 -- A load of the epoch changes of a guard what it holds and waits for, and its last reading, alone.
-use Rattle.std.proofs.Common.{◌≡◌, ◌≢◌, ℕ, ◌∷◌, [], Bool, true, false, cond, eqb, Option, Some, None, sym, refl, ap, ◌∙◌}
+use Rattle.std.proofs.Common.{◌≡◌, ◌≢◌, ℕ, ◌∷◌, [], Bool, true, false, cond, eqb, Option, Some, None, refl, ap, ◌∙◌}
 use Rattle.atomic_table.proofs.Lists.{set_else}
 use Rattle.record_memory.specs.declared.books.Guard.{Guard}
 use Rattle.row_words.specs.Refs.{RefParts}

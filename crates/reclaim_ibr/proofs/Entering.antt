@@ -1,5 +1,5 @@
 -- Entering: the epoch was loaded, and stored as the upper end and then as the lower end.
-use Rattle.std.proofs.Common.{◌≡◌, ◌≢◌, ◌+◌, ◌-◌, ◌<◌, ◌≤◌, ℕ, List, [], ◌∷◌, ◌++◌, append_assoc, length, length-append, length-set, set, get_or, get_or-set_same, get_or-set_other, count_by, Bool, false, true, Option, None, sym, refl, ap, ◌∙◌, subst, arith}
+use Rattle.std.proofs.Common.{◌≡◌, ◌+◌, ◌-◌, ℕ, List, [], ◌∷◌, ◌++◌, append_assoc, length, length-append, length-set, set, get_or, get_or-set_same, get_or-set_other, count_by, false, true, Option, None, ap, ◌∙◌, arith}
 use Rattle.record_memory.specs.declared.steps.Step.{Step}
 use Rattle.record_memory.specs.declared.books.Guard.{Guard}
 use Rattle.record_memory.specs.declared.books.Moves.{Moves}

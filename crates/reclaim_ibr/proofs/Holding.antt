@@ -1,5 +1,5 @@
 -- What is held once a link was loaded and then the epoch, and what both loads show.
-use Rattle.std.proofs.Common.{◌≡◌, ◌≢◌, ℕ, ◌<◌, ◌≤◌, List, [], ◌∷◌, length, length-set, set, get_or-set_same, get_or-set_other, Bool, cond, eqb, Option, Some, None, sym, ap, ◌∙◌, subst, refl, arith}
+use Rattle.std.proofs.Common.{◌≡◌, ◌≢◌, ℕ, ◌<◌, ◌≤◌, List, [], ◌∷◌, length, length-set, set, get_or-set_same, get_or-set_other, Bool, cond, eqb, Some, None, sym, ap, ◌∙◌, subst, refl, arith}
 use Rattle.std.proofs.lemmas.Bool.{eq-eqb}
 use Rattle.atomic_table.proofs.Lists.{set_here}
 use Rattle.set_model.specs.declared.calls.Update.{Update}
@@ -20,7 +20,7 @@ use Rattle.record_table.specs.Nodes.{HasStarted, HoldsThere, reach_at}
 use Rattle.guard_facts.specs.Announcing.{word_of}
 use Rattle.ibr_facts.specs.Keeping.{ibr, ibr_reached, ibr_read}
 use Rattle.reclaim_api.specs.Holds.{HasSeen, KeepsElse}
-use Rattle.reclaim_api.proofs.Keeping.{GoesOnAt, keeps_by}
+use Rattle.reclaim_api.proofs.Keeping.{keeps_by}
 use Rattle.reclaim_api.proofs.Reached.{started_before}
 use Rattle.reclaim_ibr.specs.Steps.{epoch_loaded, HasLoadedEpoch}
 use Rattle.reclaim_ibr.proofs.Confirmed.{confirmed_rest, reached_else, read_else}
@@ -32,12 +32,12 @@ marked_none n marked = ap (λ (b : ℕ). cond (eqb b 1) None (link_in n).target)
 pub missing_none : (n : ℕ) → mark_bit (link_in n) ≡ 0 → (link_in n).target ≡ None → target_of (link_in n) ≡ None
 missing_none n clear to = ap (λ (b : ℕ). cond (eqb b 1) None (link_in n).target) clear ∙ to
 
-leads_to : (n : ℕ) (target : RefParts) → mark_bit (link_in n) ≡ 0 → (link_in n).target ≡ Some target → target_of (link_in n) ≡ Some target
+pub leads_to : (n : ℕ) (target : RefParts) → mark_bit (link_in n) ≡ 0 → (link_in n).target ≡ Some target → target_of (link_in n) ≡ Some target
 leads_to n target clear to = ap (λ (b : ℕ). cond (eqb b 1) None (link_in n).target) clear ∙ to
 
 -- `p` before the load of the link, and `then` after it
 module _ (s : ShapeFacts) {S R : Type 0} (p then : Pass S R) (o : Origin) (place n : ℕ) (told : ReachedLink s ibr (view p) o 3 (reach_at p place) n (view then)) (same : since then ≡ since p) where
-  reached_is : (view then).own.guard ≡ ibr_reached (view p).own.guard place (target_of (link_in n))
+  pub reached_is : (view then).own.guard ≡ ibr_reached (view p).own.guard place (target_of (link_in n))
   reached_is = ap (λ (v : View). v.own.guard) told.view
 
   notes_are : (view then).own.notes ≡ set (view p).own.notes place (note_of s told.target (length (view then).seen_updates))
@@ -91,10 +91,10 @@ module _ (s : ShapeFacts) {S R : Type 0} (p then : Pass S R) (o : Origin) (place
     abbrev waiting : Guard
     waiting = ibr_reached (view p).own.guard place (Some target)
 
-    guard_is : (view q).own.guard ≡ ibr_read (Some (place, target)) waiting e h.taken_out
+    pub guard_is : (view q).own.guard ≡ ibr_read (Some (place, target)) waiting e h.taken_out
     guard_is = ap (λ (v : View). v.own.guard) h.view ∙ ap (λ (g : Guard). ibr_read g.pending g e h.taken_out) (reached_is ∙ ap (ibr_reached (view p).own.guard place) (leads_to n target clear to))
 
-    rest_is : (view q).own.guard ≡ record waiting { holds = (view q).own.guard.holds; pending = (view q).own.guard.pending; readings = e ∷ []; reading_taken_out = h.taken_out }
+    pub rest_is : (view q).own.guard ≡ record waiting { holds = (view q).own.guard.holds; pending = (view q).own.guard.pending; readings = e ∷ []; reading_taken_out = h.taken_out }
     rest_is = guard_is ∙ ap (λ (g : Guard). record g { readings = e ∷ []; reading_taken_out = h.taken_out }) (confirmed_rest (Some (place, target)) waiting e)
         ∙ (λ k. record waiting { holds = (sym guard_is k).holds; pending = (sym guard_is k).pending; readings = e ∷ []; reading_taken_out = h.taken_out })
 

@@ -1,5 +1,5 @@
 -- The local part stays the caller's over a load and a try of the epoch, over a birth, and once the lower end is cleared.
-use Rattle.std.proofs.Common.{◌≡◌, ℕ, ◌+◌, ◌<◌, ◌≤◌, length, length-set, get_or-set_same, get_or-set_other, Bool, true, false, sym, refl, ap, ◌∙◌, subst, arith}
+use Rattle.std.proofs.Common.{◌≡◌, ℕ, ◌+◌, length-set, get_or-set_same, get_or-set_other, Bool, false, sym, refl, ap, ◌∙◌, subst, arith}
 use Rattle.std.specs.Prelude.{◌%◌}
 use Rattle.record_memory.specs.declared.steps.Step.{Step}
 use Rattle.record_memory.specs.declared.books.View.{View}
@@ -7,7 +7,6 @@ use Rattle.record_memory.specs.declared.books.Standing.TheVariants.{Limbo}
 use Rattle.record_rule.specs.Kinds.{made_step}
 use Rattle.record_table.specs.declared.passes.Pass.{Pass}
 use Rattle.record_table.specs.Handles.{view, since, is_inside, IsSamePass}
-use Rattle.guard_facts.specs.Announcing.{LAST_EPOCH, reading}
 use Rattle.reclaim_api.specs.Locals.{IsLocalOf, born}
 use Rattle.reclaim_api.proofs.Kept.{chain_stays}
 use Rattle.reclaim_ibr.specs.declared.interval.Interval.{Interval}

@@ -1,5 +1,5 @@
 -- A birth and a try to hold only add steps.
-use Rattle.std.proofs.Common.{◌++◌, sym, append_assoc, ◌∙◌}
+use Rattle.std.proofs.Common.{append_assoc, ◌∙◌}
 use Rattle.std.specs.Prelude.{ℕ}
 use Rattle.record_memory.specs.declared.books.Setup.{Setup}
 use Rattle.record_memory.specs.declared.books.Book.{Book}

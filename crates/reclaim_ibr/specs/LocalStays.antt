@@ -1,5 +1,5 @@
 -- A local part depends on the caller's guard, on its records in limbo, and on how many it retired and were born alone.
-use Rattle.std.proofs.Common.{◌≡◌, ◌-◌, ◌<◌, ◌≤◌, ℕ, List, [], length, count_by, get_or, Bool, true, false, Option, Some, None, sym, ap, ◌∙◌, subst}
+use Rattle.std.proofs.Common.{◌≡◌, ◌-◌, ◌<◌, ◌≤◌, ℕ, List, [], length, count_by, get_or, Bool, true, false, Option, None, sym, ap, ◌∙◌, subst}
 use Rattle.std.specs.Prelude.{◌%◌}
 use Rattle.record_memory.specs.declared.books.Guard.{Guard}
 use Rattle.record_memory.specs.declared.books.Setup.{Setup}

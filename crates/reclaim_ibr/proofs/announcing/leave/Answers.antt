@@ -1,4 +1,4 @@
-use Rattle.std.proofs.Common.{false, sym, ap, ◌∙◌, subst}
+use Rattle.std.proofs.Common.{sym, ap, ◌∙◌, subst}
 use Rattle.record_table.specs.Handles.{view, since, is_inside}
 use Rattle.reclaim_ibr.specs.LocalParts.{IsLocal}
 use Rattle.reclaim_ibr.proofs.Storing.{lower_is_cleared}

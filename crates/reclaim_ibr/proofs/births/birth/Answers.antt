@@ -1,8 +1,7 @@
-use Rattle.std.proofs.Common.{◌≡◌, ◌≢◌, ◌+◌, [], append-nil, sym, ap, ◌∙◌, subst, refl, arith}
-use Rattle.std.specs.Prelude.{◌%◌}
+use Rattle.std.proofs.Common.{[], append-nil, sym, ap, ◌∙◌, refl, arith}
 use Rattle.record_memory.specs.declared.books.View.{View}
 use Rattle.record_table.specs.Handles.{view, since, is_inside, setup_of}
-use Rattle.reclaim_ibr.specs.Running.{AdvancesAtTimes, at_time, between, Bears}
+use Rattle.reclaim_ibr.specs.Running.{at_time, between}
 use Rattle.reclaim_ibr.proofs.Locals.{local_born}
 use Rattle.reclaim_ibr.proofs.Bearing.{bears_by}
 use Rattle.reclaim_ibr.proofs.births.birth.Goals as goal
