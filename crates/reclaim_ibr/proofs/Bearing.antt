@@ -1,12 +1,12 @@
 -- The steps of a birth.
-use Rattle.std.proofs.Common.{◌≡◌, ℕ, ◌<◌, ◌≤◌, List, [], ◌∷◌, ◌++◌, append_assoc, ap, ◌∙◌, refl}
+use Rattle.std.proofs.Common.{arith, ◌≡◌, ℕ, ◌<◌, ◌≤◌, List, [], ◌∷◌, ◌++◌, append_assoc, ap, ◌∙◌, refl}
 use Rattle.record_memory.specs.declared.steps.Step.{Step}
 use Rattle.record_memory.specs.declared.books.Setup.{Setup}
 use Rattle.record_memory.specs.declared.books.Book.{Book}
 use Rattle.record_memory.specs.declared.books.View.{View}
 use Rattle.std.specs.Prelude.{count_by}
 use Rattle.record_rule.specs.Kinds.{made_step, is_idle, idle}
-use Rattle.guard_facts.specs.Announcing.{LAST_EPOCH}
+use Rattle.guard_facts.specs.Announcing.{LAST_EPOCH, reading}
 use Rattle.reclaim_api.specs.StepForms.{epoch_load, epoch_exchange}
 use Rattle.reclaim_ibr.specs.Running.{one_try, no_try, Advances, AdvancesAtTimes, Bears}
 use Rattle.reclaim_ibr.specs.Steps.{HasReadEpoch}
@@ -34,8 +34,9 @@ advanced_last v u e read le = (
 )
 
 -- then it was loaded for the answer
-pub bears_by : (k : Setup) (v u w : View) (made : List Step) (n : ℕ) → AdvancesAtTimes v.own made → u.own.steps ≡ v.own.steps ++ made → u.own.mine ≡ v.own.mine → HasReadEpoch u n w → Bears k v.own n w.own
-bears_by k v u w made n times steps mine read = record {
+pub bears_by : (k : Setup) (v u w : View) (made : List Step) (n : ℕ) → AdvancesAtTimes v.own made → u.own.steps ≡ v.own.steps ++ made → u.own.mine ≡ v.own.mine → reading v.own.guard 0 ≤ reading u.own.guard 0 → HasReadEpoch u n w → Bears k v.own n w.own
+bears_by k v u w made n times steps mine rise read = record {
+  read = record { rise = let a = read.least in omega arith; limit = read.most; read = ap (λ (x : View). reading x.own.guard 0) read.view };
   made = made;
   advances = times;
   steps = ap (λ (x : View). x.own.steps) read.view ∙ (λ j. steps j ++ record (epoch_load v.own n) { idle = same_idle v.own u.own mine j } ∷ []);

@@ -11,7 +11,7 @@ use Rattle.row_words.specs.declared.links.Chain.{Chain}
 use Rattle.row_words.specs.declared.links.Freed.{Freed}
 use Rattle.record_rule.specs.Kinds.{idle}
 use Rattle.record_rule.specs.Standings.{is_limbo, is_spent}
-use Rattle.guard_facts.specs.Announcing.{entered}
+use Rattle.guard_facts.specs.Announcing.{word_of, reading, entered}
 use Rattle.reclaim_api.specs.Chained.{IsChainOf}
 use Rattle.reclaim_api.specs.Frames.{in_rest, is_as, FreesInto, LeavesRest, LeavesRecords}
 use Rattle.reclaim_api.specs.StepForms.{epoch_load, word_store}
@@ -66,29 +66,38 @@ module _ (v u x w : View) (e upper : ℕ) (read : HasReadEpoch v e u) (raised : 
   pub entered_setup : w.setup ≡ v.setup
   entered_setup = begun.setup ∙ ap (λ (y : View). y.setup) then_is
 
-  pub entered_steps : (k : Setup) (f : Freed) → f.freed ≡ 0 → f.spent ≡ 0 → Enters k v.own f w.own
-  unfolding idle
-  entered_steps k f freed spent = record {
-    none = (freed, spent);
-    epoch = e;
-    upper = upper;
-    lower = begun.lower;
-    steps = begun.steps ∙ ap (λ (y : View). y.own.steps ++ word_store y.own 0 e begun.lower ∷ []) then_is ∙ three v.own.steps (epoch_load v.own e ∷ []) (word_store v.own 1 e upper ∷ []) (word_store v.own 0 e begun.lower ∷ []);
-  }
-    where
-      three : (a b c d : List Step) → ((a ++ b) ++ c) ++ d ≡ a ++ (b ++ (c ++ d))
-      three a b c d = simp append_assoc
+  module _ (four : length v.own.guard.announced ≡ 4) where
+    lower_is : word_of w.own.guard 0 ≡ e
+    lower_is = ap (λ (g : Guard). word_of g 0) guard_is ∙ get_or-set_same (set v.own.guard.announced 1 e) 0 e 0 (let d = length-set v.own.guard.announced 1 e in omega arith)
+
+    upper_is : word_of w.own.guard 1 ≡ e
+    upper_is = ap (λ (g : Guard). word_of g 1) guard_is ∙ get_or-set_other (set v.own.guard.announced 1 e) 0 1 e 0 (λ q. omega arith) ∙ get_or-set_same v.own.guard.announced 1 e 0 (omega arith)
+
+    pub entered_steps : (k : Setup) (f : Freed) → f.freed ≡ 0 → f.spent ≡ 0 → Enters k v.own f w.own
+    unfolding idle
+    entered_steps k f freed spent = record {
+      none = (freed, spent);
+      epoch = e;
+      read = record { rise = read.least; limit = read.most; read = ap (λ (g : Guard). reading g 0) guard_is };
+      ends = (lower_is, upper_is);
+      upper = upper;
+      lower = begun.lower;
+      steps = begun.steps ∙ ap (λ (y : View). y.own.steps ++ word_store y.own 0 e begun.lower ∷ []) then_is ∙ three v.own.steps (epoch_load v.own e ∷ []) (word_store v.own 1 e upper ∷ []) (word_store v.own 0 e begun.lower ∷ []);
+    }
+      where
+        three : (a b c d : List Step) → ((a ++ b) ++ c) ++ d ≡ a ++ (b ++ (c ++ d))
+        three a b c d = simp append_assoc
 
   -- the caller has an interval, and its guard began with the last of these steps
   pub entered_local : (l : Interval) (s : View) → IsLocal l false s v → IsLocal (record l { upper = e }) true v w
-  entered_local l s h = let four = h.words in local_on l e false true s v v w entered_setup (begun.caller ∙ ap (λ (y : View). y.own.caller) then_is) entered_rest.mine entered_rest.moves record {
+  entered_local l s h = local_on l e false true s v v w entered_setup (begun.caller ∙ ap (λ (y : View). y.own.caller) then_is) entered_rest.mine entered_rest.moves record {
     words = ap (λ (g : Guard). length g.announced) guard_is ∙ length-set (set v.own.guard.announced 1 e) 0 e ∙ length-set v.own.guard.announced 1 e ∙ h.words;
     calm = ap (λ (g : Guard). g.loaded) guard_is ∙ h.calm;
-    waits = ap (λ (g : Guard). g.pending) guard_is;
-    upper = ap (λ (g : Guard). get_or g.announced 1 0) guard_is ∙ get_or-set_other (set v.own.guard.announced 1 e) 0 1 e 0 (λ q. omega arith) ∙ get_or-set_same v.own.guard.announced 1 e 0 (omega arith);
-    first = let a = h.first in let b = read.least in let c = ap (λ (g : Guard). get_or g.readings 0 0) guard_is in omega arith;
-    limit = let a = read.most in let c = ap (λ (g : Guard). get_or g.readings 0 0) guard_is in omega arith;
+    settled = ap (λ (g : Guard). g.pending) guard_is;
+    upper = upper_is h.words;
+    first = let a = h.first in let b = read.least in let c = ap (λ (g : Guard). reading g 0) guard_is in omega arith;
+    limit = let a = read.most in let c = ap (λ (g : Guard). reading g 0) guard_is in omega arith;
   } record {
-    lower = let a = h.first in let b = read.least in let c = ap (λ (g : Guard). get_or g.announced 0 0) guard_is ∙ get_or-set_same (set v.own.guard.announced 1 e) 0 e 0 (let d = length-set v.own.guard.announced 1 e in omega arith) in λ q. omega arith;
+    lower = let a = h.first in let b = read.least in let c = lower_is h.words in λ q. omega arith;
     started = let a = ap (λ (g : Guard). g.start_step) guard_is in let b = ap (λ (y : View). length y.own.steps) then_is in let c = length-append (v.own.steps ++ epoch_load v.own e ∷ []) (word_store (epoch_read v e read.taken_out).own 1 e upper ∷ []) in let d = length-append v.own.steps (epoch_load v.own e ∷ []) in omega arith;
   } h

@@ -7,3 +7,4 @@ pub mod Locals
 pub mod Bearing
 pub mod Entering
 pub mod Trying
+pub mod Starting

@@ -11,7 +11,7 @@ use Rattle.reclaim_api.specs.Locals.{IsLocalOf, born}
 use Rattle.reclaim_api.proofs.Kept.{chain_stays}
 use Rattle.reclaim_ibr.specs.declared.interval.Interval.{Interval}
 use Rattle.reclaim_ibr.specs.LocalParts.{EACH, IsLocal}
-use Rattle.reclaim_ibr.specs.LocalStays.{local_calm, local_on, guarded_by}
+use Rattle.reclaim_ibr.specs.LocalStays.{local_settled, local_on, guarded_by}
 use Rattle.reclaim_ibr.specs.Steps.{epoch_read, HasReadEpoch, lower_cleared}
 
 -- a pass is inside as before, and its guard began when it did
@@ -21,11 +21,11 @@ local_pass l p q same h = subst (λ (x : Bool × View). IsLocal l x.0 x.1 (view 
 -- the epoch was loaded
 pub local_read : (l : Interval) (i : Bool) (s v w : View) (e : ℕ) → HasReadEpoch v e w → IsLocal l i s v → IsLocal l i s w
 local_read l i s v w e read h = let u : View = epoch_read v e read.taken_out in subst (IsLocal l i s) (sym read.view)
-    (local_on l l.upper i i s s v u refl refl refl refl record { words = h.words; calm = h.calm; waits = h.waits; upper = h.upper; first = (let a = h.first in let b = read.least in omega arith); limit = read.most } (guarded_by i s v u refl refl h.guarded) h)
+    (local_on l l.upper i i s s v u refl refl refl refl record { words = h.words; calm = h.calm; settled = h.settled; upper = h.upper; first = (let a = h.first in let b = read.least in omega arith); limit = read.most } (guarded_by i s v u refl refl h.guarded) h)
 
 -- a step of which nothing else is known
 pub local_made : (l : Interval) (i : Bool) (s v w : View) (t : Step) → w ≡ made_step v t → IsLocal l i s v → IsLocal l i s w
-local_made l i s v w t is h = subst (IsLocal l i s) (sym is) (local_on l l.upper i i s s v (made_step v t) refl refl refl refl (local_calm l i s v h) (guarded_by i s v (made_step v t) refl refl h.guarded) h)
+local_made l i s v w t is h = subst (IsLocal l i s) (sym is) (local_on l l.upper i i s s v (made_step v t) refl refl refl refl (local_settled l i s v h) (guarded_by i s v (made_step v t) refl refl h.guarded) h)
 
 -- one more record is the caller's own
 pub local_born : (l : Interval) (i : Bool) (s v : View) → IsLocal l i s v → IsLocal (record l { births = (l.births + 1) % EACH }) i s (born v)
@@ -36,7 +36,7 @@ local_born l i s v h = record {
   few = h.few;
   words = h.words;
   calm = h.calm;
-  waits = h.waits;
+  settled = h.settled;
   upper = h.upper;
   first = h.first;
   limit = h.limit;
@@ -53,7 +53,7 @@ local_cleared l i s t v w found is h = let u : View = lower_cleared v found in l
     (local_on l l.upper i false s t v u refl refl refl refl record {
       words = length-set v.own.guard.announced 0 0 ∙ h.words;
       calm = h.calm;
-      waits = refl;
+      settled = refl;
       upper = get_or-set_other v.own.guard.announced 0 1 0 0 (λ e. omega arith) ∙ h.upper;
       first = h.first;
       limit = h.limit;

@@ -24,7 +24,8 @@ use Rattle.reclaim_api.specs.StepForms.{epoch_load, word_store}
 use Rattle.reclaim_api.proofs.Keeping.{keeps_by}
 use Rattle.reclaim_ibr.specs.declared.interval.Interval.{Interval}
 use Rattle.reclaim_ibr.specs.LocalParts.{IsLocal}
-use Rattle.reclaim_ibr.specs.LocalStays.{IsCalm, local_on, guarded_by}
+use Rattle.reclaim_ibr.specs.LocalStays.{IsSettled, local_on, guarded_by}
+use Rattle.reclaim_ibr.specs.Running.{IsRead}
 use Rattle.reclaim_ibr.specs.Steps.{epoch_loaded, HasLoadedEpoch, upper_stored}
 use Rattle.reclaim_ibr.proofs.Holding.{reached_is, rest_is, guard_is}
 
@@ -42,11 +43,11 @@ keeps_raise q x same e found is = keeps_by q x same (λ place. Unit {0}) (λ pla
     (subst (λ (v : View). StartsWith v.seen_updates (view q).seen_updates) (sym is) (starts_itself (view q).seen_updates))
 
 -- `p` before the load of the link, and `then` after it
-module _ (s : ShapeFacts) {S R : Type 0} (p then : Pass S R) (o : Origin) (place n : ℕ) (told : ReachedLink s ibr (view p) o 3 (reach_at p place) n (view then)) (same : since then ≡ since p) (l : Interval) (i : Bool) (t : View) where
+module _ (s : ShapeFacts) {S R : Type 0} (p then : Pass S R) (o : Origin) (place n : ℕ) (told : ReachedLink s ibr (view p) o 3 (reach_at p place) n (view then)) (same : since then ≡ since p) where
   -- nothing was there to hold
-  pub local_stopped : target_of (link_in n) ≡ None → IsLocal l i t (view p) → IsLocal l i t (view then)
-  local_stopped none h = local_on l l.upper i i t t (view p) (view then) (ap (λ (v : View). v.setup) told.view) (ap (λ (v : View). v.own.caller) told.view) (ap (λ (v : View). v.own.mine) told.view) (ap (λ (v : View). v.own.moves) told.view)
-      (subst (λ (g : Guard). IsCalm g l.upper) (sym (reached_is s p then o place n told same ∙ ap (ibr_reached (view p).own.guard place) none)) record { words = h.words; calm = h.calm; waits = refl; upper = h.upper; first = h.first; limit = h.limit })
+  pub local_stopped : (l : Interval) (i : Bool) (t : View) → target_of (link_in n) ≡ None → IsLocal l i t (view p) → IsLocal l i t (view then)
+  local_stopped l i t none h = local_on l l.upper i i t t (view p) (view then) (ap (λ (v : View). v.setup) told.view) (ap (λ (v : View). v.own.caller) told.view) (ap (λ (v : View). v.own.mine) told.view) (ap (λ (v : View). v.own.moves) told.view)
+      (subst (λ (g : Guard). IsSettled g l.upper) (sym (reached_is s p then o place n told same ∙ ap (ibr_reached (view p).own.guard place) none)) record { words = h.words; calm = h.calm; settled = refl; upper = h.upper; first = h.first; limit = h.limit })
       (guarded_by i t (view p) (view then) (ap (λ (v : View). word_of v.own.guard 0) told.view) (ap (λ (v : View). v.own.guard.start_step) told.view) h.guarded) h
 
   -- the link leads to a record, and the epoch is loaded: `q` after that
@@ -70,25 +71,31 @@ module _ (s : ShapeFacts) {S R : Type 0} (p then : Pass S R) (o : Origin) (place
     reads : reading (view q).own.guard 0 ≡ e
     reads = ap (λ (g : Guard). reading g 0) read_is
 
-    pub local_held : e ≡ word_of (view p).own.guard 1 → IsLocal l i t (view p) → IsLocal l i t (view q)
-    local_held found k = local_on l l.upper i i t t (view p) (view q) (ap (λ (v : View). v.setup) h.view ∙ ap (λ (v : View). v.setup) told.view) (ap (λ (v : View). v.own.caller) h.view ∙ ap (λ (v : View). v.own.caller) told.view)
+    pub is_read : IsRead (view p).own e (view q).own
+    is_read = record { rise = least; limit = h.most; read = reads }
+
+    pub upper_raised : (x : View) (found : ℕ) → x ≡ upper_stored (view q) e found → length (view p).own.guard.announced ≡ 4 → word_of x.own.guard 1 ≡ e
+    upper_raised x found is four = let words : length (view q).own.guard.announced ≡ 4 = ap (λ (g : Guard). length g.announced) read_is ∙ four in ap (λ (y : View). word_of y.own.guard 1) is ∙ get_or-set_same (view q).own.guard.announced 1 e 0 (omega arith)
+
+    pub local_held : (l : Interval) (i : Bool) (t : View) → e ≡ word_of (view p).own.guard 1 → IsLocal l i t (view p) → IsLocal l i t (view q)
+    local_held l i t found k = local_on l l.upper i i t t (view p) (view q) (ap (λ (v : View). v.setup) h.view ∙ ap (λ (v : View). v.setup) told.view) (ap (λ (v : View). v.own.caller) h.view ∙ ap (λ (v : View). v.own.caller) told.view)
         (ap (λ (v : View). v.own.mine) h.view ∙ ap (λ (v : View). v.own.mine) told.view) (ap (λ (v : View). v.own.moves) h.view ∙ ap (λ (v : View). v.own.moves) told.view) record {
           words = ap (λ (g : Guard). length g.announced) read_is ∙ k.words;
           calm = ap (λ (g : Guard). g.loaded) read_is ∙ k.calm;
-          waits = confirmed found;
+          settled = confirmed found;
           upper = ap (λ (g : Guard). word_of g 1) read_is ∙ k.upper;
           first = let a = k.first in let b = least in let c = reads in omega arith;
           limit = let a = h.most in let c = reads in omega arith;
         } (guarded_by i t (view p) (view q) (ap (λ (g : Guard). word_of g 0) read_is) (ap (λ (g : Guard). g.start_step) read_is) k.guarded) k
 
     -- or another one, which is stored as the upper end
-    pub local_raised : (x : View) (found : ℕ) → x ≡ upper_stored (view q) e found → IsLocal l i t (view p) → IsLocal (record l { upper = e }) i t x
-    local_raised x found is k = let words : length (view q).own.guard.announced ≡ 4 = ap (λ (g : Guard). length g.announced) read_is ∙ k.words in let u : View = upper_stored (view q) e found in subst (IsLocal (record l { upper = e }) i t) (sym is)
+    pub local_raised : (l : Interval) (i : Bool) (t x : View) (found : ℕ) → x ≡ upper_stored (view q) e found → IsLocal l i t (view p) → IsLocal (record l { upper = e }) i t x
+    local_raised l i t x found is k = let words : length (view q).own.guard.announced ≡ 4 = ap (λ (g : Guard). length g.announced) read_is ∙ k.words in let u : View = upper_stored (view q) e found in subst (IsLocal (record l { upper = e }) i t) (sym is)
         (local_on l e i i t t (view p) u (ap (λ (v : View). v.setup) h.view ∙ ap (λ (v : View). v.setup) told.view) (ap (λ (v : View). v.own.caller) h.view ∙ ap (λ (v : View). v.own.caller) told.view)
         (ap (λ (v : View). v.own.mine) h.view ∙ ap (λ (v : View). v.own.mine) told.view) (ap (λ (v : View). v.own.moves) h.view ∙ ap (λ (v : View). v.own.moves) told.view) record {
           words = length-set (view q).own.guard.announced 1 e ∙ words;
           calm = ap (λ (g : Guard). g.loaded) read_is ∙ k.calm;
-          waits = refl;
+          settled = refl;
           upper = get_or-set_same (view q).own.guard.announced 1 e 0 (omega arith);
           first = let a = k.first in let b = least in let c = reads in omega arith;
           limit = let a = h.most in let c = reads in omega arith;

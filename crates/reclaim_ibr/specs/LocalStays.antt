@@ -17,28 +17,28 @@ use Rattle.reclaim_ibr.specs.declared.interval.Interval.{Interval}
 use Rattle.reclaim_ibr.specs.LocalParts.{EACH, IsGuarded, IsLocal}
 
 -- what a local part says of its caller's guard, inside an operation and outside
-pub record IsCalm (g : Guard) (end : ℕ) : Type 0 where
+pub record IsSettled (g : Guard) (end : ℕ) : Type 0 where
   pub words : length g.announced ≡ 4
   pub calm : g.loaded ≡ []
-  pub waits : g.pending ≡ None
+  pub settled : g.pending ≡ None
   pub upper : word_of g 1 ≡ end
   pub first : 1 ≤ reading g 0
   pub limit : reading g 0 ≤ LAST_EPOCH
 
-pub local_calm : (l : Interval) (i : Bool) (s v : View) → IsLocal l i s v → IsCalm v.own.guard l.upper
-local_calm l i s v h = record { words = h.words; calm = h.calm; waits = h.waits; upper = h.upper; first = h.first; limit = h.limit }
+pub local_settled : (l : Interval) (i : Bool) (s v : View) → IsLocal l i s v → IsSettled v.own.guard l.upper
+local_settled l i s v h = record { words = h.words; calm = h.calm; settled = h.settled; upper = h.upper; first = h.first; limit = h.limit }
 
 -- it is the caller's where no record in limbo changes and none comes, as many were retired and born, and the guard is as the new part says
-pub local_by : (l : Interval) (upper : ℕ) (i j : Bool) (s t v w : View) → w.setup ≡ v.setup → w.own.caller ≡ v.own.caller → Stays Limbo v w → had is_limbo w.own ≡ had is_limbo v.own → w.own.moves.retired ≡ v.own.moves.retired → w.own.moves.births ≡ v.own.moves.births
-    → IsCalm w.own.guard upper → IsGuarded j t w → IsLocal l i s v → IsLocal (record l { upper = upper }) j t w
-local_by l upper i j s t v w setup caller stays many retired births guard guarded h = record {
+pub local_fits : (l : Interval) (upper : ℕ) (i j : Bool) (s t v w : View) → w.setup ≡ v.setup → w.own.caller ≡ v.own.caller → Stays Limbo v w → had is_limbo w.own ≡ had is_limbo v.own → w.own.moves.retired ≡ v.own.moves.retired → w.own.moves.births ≡ v.own.moves.births
+    → IsSettled w.own.guard upper → IsGuarded j t w → IsLocal l i s v → IsLocal (record l { upper = upper }) j t w
+local_fits l upper i j s t v w setup caller stays many retired births guard guarded h = record {
   caller = caller ∙ h.caller;
   callers = ap (λ (k : Setup). k.callers) setup ∙ h.callers;
   counted = h.counted;
   few = h.few;
   words = guard.words;
   calm = guard.calm;
-  waits = guard.waits;
+  settled = guard.settled;
   upper = guard.upper;
   first = guard.first;
   limit = guard.limit;
@@ -50,8 +50,8 @@ local_by l upper i j s t v w setup caller stays many retired births guard guarde
 }
 
 -- so where the caller knows the same of all records and made no move of one
-pub local_on : (l : Interval) (upper : ℕ) (i j : Bool) (s t v w : View) → w.setup ≡ v.setup → w.own.caller ≡ v.own.caller → w.own.mine ≡ v.own.mine → w.own.moves ≡ v.own.moves → IsCalm w.own.guard upper → IsGuarded j t w → IsLocal l i s v → IsLocal (record l { upper = upper }) j t w
-local_on l upper i j s t v w setup caller mine moves = local_by l upper i j s t v w setup caller (λ k x known is. ap (λ (m : List (Option Share)). get_or m (k - 1) None) mine ∙ known) (ap (λ (m : List (Option Share)). count_by (is_as is_limbo) m) mine)
+pub local_on : (l : Interval) (upper : ℕ) (i j : Bool) (s t v w : View) → w.setup ≡ v.setup → w.own.caller ≡ v.own.caller → w.own.mine ≡ v.own.mine → w.own.moves ≡ v.own.moves → IsSettled w.own.guard upper → IsGuarded j t w → IsLocal l i s v → IsLocal (record l { upper = upper }) j t w
+local_on l upper i j s t v w setup caller mine moves = local_fits l upper i j s t v w setup caller (λ k x known is. ap (λ (m : List (Option Share)). get_or m (k - 1) None) mine ∙ known) (ap (λ (m : List (Option Share)). count_by (is_as is_limbo) m) mine)
     (ap (λ (m : Moves). m.retired) moves) (ap (λ (m : Moves). m.births) moves)
 
 -- whether it is guarded depends on the lower end and on where the guard started
@@ -64,5 +64,5 @@ guarded_by false s v w lower start h = lower ∙ h
 
 pub local_same : (l : Interval) (inside : Bool) (s v w : View) → SamePart ibr v w → IsLocal l inside s v → IsLocal l inside s w
 local_same l inside s v w same h = let guard : w.own.guard ≡ v.own.guard = same.guard.guard in
-    local_by l l.upper inside inside s s v w same.setup same.caller (limbo_away v w same.away) (bag_all w.own ∙ bag_away (λ x. true) v w same.away ∙ sym (bag_all v.own)) same.retired same.births
-    (subst (λ (g : Guard). IsCalm g l.upper) (sym guard) (local_calm l inside s v h)) (guarded_by inside s v w (ap (λ (g : Guard). word_of g 0) guard) (ap (λ (g : Guard). g.start_step) guard) h.guarded) h
+    local_fits l l.upper inside inside s s v w same.setup same.caller (limbo_away v w same.away) (bag_all w.own ∙ bag_away (λ x. true) v w same.away ∙ sym (bag_all v.own)) same.retired same.births
+    (subst (λ (g : Guard). IsSettled g l.upper) (sym guard) (local_settled l inside s v h)) (guarded_by inside s v w (ap (λ (g : Guard). word_of g 0) guard) (ap (λ (g : Guard). g.start_step) guard) h.guarded) h

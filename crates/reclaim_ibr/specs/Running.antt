@@ -8,17 +8,25 @@ use Rattle.row_words.specs.declared.links.Freed.{Freed}
 use Rattle.row_words.specs.Packing.{link_in}
 use Rattle.record_rule.specs.Facts.{mark_bit}
 use Rattle.record_table.specs.declared.nodes.Node.{Node}
-use Rattle.guard_facts.specs.Announcing.{LAST_EPOCH, word_of}
+use Rattle.guard_facts.specs.Announcing.{LAST_EPOCH, word_of, reading}
 use Rattle.reclaim_api.specs.declared.holding.Holding.{Holding}
 use Rattle.reclaim_api.specs.declared.holding.Holding.TheVariants.{Null, Held, Marked, Moved}
 use Rattle.reclaim_api.specs.LinkLoads.{link_load}
 use Rattle.reclaim_api.specs.StepForms.{IsNoneFreed, epoch_load, epoch_exchange, word_store}
 use Rattle.reclaim_ibr.specs.LocalParts.{EACH}
 
+-- an epoch that was loaded is no less than the caller's last reading, which it is then
+pub record IsRead (b : Book) (e : ℕ) (c : Book) : Type 0 where
+  pub rise : reading b.guard 0 ≤ e
+  pub limit : e ≤ LAST_EPOCH
+  pub read : reading c.guard 0 ≡ e
+
 -- Entering: the epoch is loaded, and stored as the upper end and then as the lower end
 pub record Enters (setup : Setup) (b : Book) (f : Freed) (c : Book) : Type 0 where
   pub none : IsNoneFreed f
   pub epoch : ℕ
+  pub read : IsRead b epoch c
+  pub ends : (word_of c.guard 0 ≡ epoch) × (word_of c.guard 1 ≡ epoch)
   pub upper : ℕ
   pub lower : ℕ
   pub steps : c.steps ≡ b.steps ++ epoch_load b epoch ∷ word_store b 1 epoch upper ∷ word_store b 0 epoch lower ∷ []
@@ -27,6 +35,7 @@ pub record Enters (setup : Setup) (b : Book) (f : Freed) (c : Book) : Type 0 whe
 pub record Leaves (setup : Setup) (b c : Book) : Type 0 where
   pub lower : ℕ
   pub steps : c.steps ≡ b.steps ++ word_store b 0 0 lower ∷ []
+  pub cleared : word_of c.guard 0 ≡ 0
 
 -- the epoch that was loaded is tried once, unless it is the last one
 pub data Tries (b : Book) (e : ℕ) : List Step → Type 0 where
@@ -47,6 +56,7 @@ pub data AdvancesAtTimes (b : Book) (made : List Step) : Type 0 where
 
 -- A birth is what the last load of the epoch found
 pub record Bears (setup : Setup) (b : Book) (n : ℕ) (c : Book) : Type 0 where
+  pub read : IsRead b n c
   pub made : List Step
   pub advances : AdvancesAtTimes b made
   pub steps : c.steps ≡ b.steps ++ made ++ epoch_load b n ∷ []
@@ -75,6 +85,7 @@ pub record Confirms (place : ℕ) (from : Node) (field : ℕ) (b : Book) (h : Ho
   pub target : RefParts
   pub link : LeadsTo found target
   pub epoch : ℕ
+  pub read : IsRead b epoch c
   pub same : epoch ≡ word_of b.guard 1
   pub steps : c.steps ≡ b.steps ++ link_load b from field found ∷ epoch_load b epoch ∷ []
   pub answer : h ≡ Held (record { place = place; target = target })
@@ -85,7 +96,9 @@ pub record Raises (from : Node) (field : ℕ) (b : Book) (h : Holding) (c : Book
   pub target : RefParts
   pub link : LeadsTo found target
   pub epoch : ℕ
+  pub read : IsRead b epoch c
   pub another : epoch ≢ word_of b.guard 1
+  pub raised : word_of c.guard 1 ≡ epoch
   pub upper : ℕ
   pub steps : c.steps ≡ b.steps ++ link_load b from field found ∷ epoch_load b epoch ∷ word_store b 1 epoch upper ∷ []
   pub answer : h ≡ Moved epoch

@@ -1,7 +1,8 @@
 // A record is born at the present epoch, which is tried now and then.
-ghost use Rattle.std.specs.Prelude.{◌≡◌, ◌<◌, ◌^◌, ◌++◌, List};
+ghost use Rattle.std.specs.Prelude.{◌≡◌, ◌<◌, ◌≤◌, ◌^◌, ◌++◌, List};
 ghost use Rattle.record_memory.specs.declared.steps.Step.{Step};
 ghost use Rattle.record_table.specs.Handles.{setup_of, view, IsPassOf, IsSamePass};
+ghost use Rattle.guard_facts.specs.Announcing.{reading};
 ghost use Rattle.ibr_facts.specs.Keeping.{ibr};
 ghost use Rattle.reclaim_api.specs.Guarding.{IsInside};
 ghost use Rattle.reclaim_api.specs.Frames.{LeavesRecords};
@@ -29,6 +30,7 @@ fn advance<S: Shape>(table: &Table<S, Ibr>, pass: &mut Pass<S, Ibr>, local: &Int
     ensures local { IsLocalOf IsLocal local.now pass.new }
     ensures rest { LeavesRecords (view pass.old) (view pass.new) }
     ensures keeps { KeepsHeld pass.old pass.new }
+    ensures rise { reading (view pass.old).own.guard 0 ≤ reading (view pass.new).own.guard 0 }
     ensures advanced { (made : List Step) × Advances (view pass.old).own made × ((view pass.new).own.steps ≡ (view pass.old).own.steps ++ made) }
 {
     let epoch = read_epoch(table, pass, local);

@@ -13,7 +13,7 @@ use Rattle.reclaim_ibr.proofs.announcing.enter.Goals as goal
 -- the epoch was loaded by a pass that knew as much as before
 read : (g : _) (c : goal.After-store_end g) → HasReadEpoch (view c.args.pass.now) c.load_epoch-epoch.result (view c.load_epoch-epoch.new.pass)
 read g c = let v : View = view c.args.pass.now in let u : View = view c.load_epoch-epoch.new.pass in
-    epoch_is_read v u c.load_epoch-epoch.result c.requires.local.waits (subst (λ (y : View). HasLoadedEpoch y c.load_epoch-epoch.result u) (ap (λ x. x.me.0) c.begin_guard.ensures.seat.same_seat) c.load_epoch-epoch.ensures.loaded)
+    epoch_is_read v u c.load_epoch-epoch.result c.requires.local.settled (subst (λ (y : View). HasLoadedEpoch y c.load_epoch-epoch.result u) (ap (λ x. x.me.0) c.begin_guard.ensures.seat.same_seat) c.load_epoch-epoch.ensures.loaded)
 
 begun : (g : _) (c : goal.After-store_end g) → HasBegun (view c.raise.new.pass) c.load_epoch-epoch.result (view c.store_end.new.pass)
 begun g c = let s = c.store_end.ensures.stored in guard_begins (view c.raise.new.pass) (view c.store_end.new.pass) c.load_epoch-epoch.result s.0 (let a = c.requires.local.first in let b = (read g c).least in omega arith) s.1
@@ -37,4 +37,4 @@ pub returns-clause-frees : goal.returns-clause-frees
 returns-clause-frees g c = records_frees (view c.args.pass.now) (view c.store_end.new.pass) c.args.free.now _ (rest g c) refl refl
 
 pub returns-clause-does : goal.returns-clause-does
-returns-clause-does g c = let r = c.raise.ensures.stored in entered_steps (view c.args.pass.now) (view c.load_epoch-epoch.new.pass) (view c.raise.new.pass) (view c.store_end.new.pass) c.load_epoch-epoch.result r.0 (read g c) r.1 (begun g c) (setup_of c.args.table.now) _ refl refl
+returns-clause-does g c = let r = c.raise.ensures.stored in entered_steps (view c.args.pass.now) (view c.load_epoch-epoch.new.pass) (view c.raise.new.pass) (view c.store_end.new.pass) c.load_epoch-epoch.result r.0 (read g c) r.1 (begun g c) c.requires.local.words (setup_of c.args.table.now) _ refl refl
