@@ -1,1 +1,4 @@
 pub mod LocalParts
+pub mod Meeting
+pub mod Retiring
+pub mod Scans

@@ -1,0 +1,7 @@
+pub mod Words
+pub mod Scanning
+pub mod LocalKept
+pub mod Reading
+pub mod Bagging
+pub mod Sifting
+pub mod PutAway
