@@ -1,4 +1,5 @@
 pub mod Words
+pub mod Passing
 pub mod Scanning
 pub mod LocalKept
 pub mod Reading

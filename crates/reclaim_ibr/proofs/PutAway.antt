@@ -24,15 +24,19 @@ use Rattle.reclaim_api.proofs.Kept.{retired_leaves, retired_idle, retired_limbo,
 use Rattle.reclaim_api.proofs.Stills.{still_guard, still_moves, still_rest, still_idle, still_had, still_left}
 use Rattle.reclaim_ibr.specs.LocalParts.{EACH}
 use Rattle.reclaim_ibr.specs.Retiring.{IsHeadFor, Scans, ScansIfDue, waits, scans, bagged_share, PutsAway}
-use Rattle.reclaim_ibr.specs.Scans.{read_epoch, HasKept}
+use Rattle.reclaim_ibr.specs.Scans.{read_epoch, HasRead, HasKept}
 
 -- a record in limbo is so for each book that knows the same of the records
 head_same : (b c : Book) (next : Option RefParts) → c.mine ≡ b.mine → IsHeadFor b next → IsHeadFor c next
 head_same b c None same h = ap (λ (l : List (Option Share)). had is_limbo (record b { mine = l })) same ∙ h
-head_same b c (Some q) same h = (h.0, ap (λ (l : List (Option Share)). get_or l (q.index - 1) None) same ∙ h.1, h.2)
+head_same b c (Some q) same h = (h.0, ap (λ (l : List (Option Share)). get_or l (q.index - 1) None) same ∙ h.1, h.2, h.3)
 
 joined : (a b c d e : List Step) → (((a ++ b) ++ c) ++ d) ++ e ≡ a ++ (b ++ (c ++ (d ++ e)))
 joined a b c d e = simp append_assoc
+
+-- the record in the bag, of what was known once the epoch was loaded
+pub kept_after : (v t u : View) (r : RefParts) (e : ℕ) (read : HasRead v e t) → HasKept t r e u → HasKept (read_epoch v e read.taken_out read.drawing) r e u
+kept_after v t u r e read kept = subst (λ (x : View). HasKept x r e u) read.view kept
 
 module _ (v u : View) (r : RefParts) (e taken_out : ℕ) (drawing : Drawing) (kept : HasKept (read_epoch v e taken_out drawing) r e u) where
   abbrev value : ℕ

@@ -4,8 +4,9 @@ use Rattle.std.proofs.lemmas.Bool.{ne_eqb}
 use Rattle.record_memory.specs.declared.books.Guard.{Guard}
 use Rattle.record_memory.specs.declared.books.View.{View}
 use Rattle.record_memory.specs.declared.books.Share.{Share}
-use Rattle.record_memory.specs.declared.books.Standing.TheVariants.{Limbo}
+use Rattle.record_memory.specs.declared.books.Standing.TheVariants.{Limbo, Free}
 use Rattle.row_words.specs.Refs.{RefParts}
+use Rattle.row_words.specs.declared.links.Chain.{Chain}
 use Rattle.record_rule.specs.Facts.{At, LimboRecord}
 use Rattle.record_rule.specs.Kinds.{control_load}
 use Rattle.record_rule.specs.Links.{with_step, note_in, HasTaken}
@@ -16,6 +17,7 @@ use Rattle.record_table.specs.declared.passes.Pass.{Pass}
 use Rattle.record_table.specs.Handles.{view, since}
 use Rattle.guard_facts.specs.Announcing.{reading}
 use Rattle.ibr_facts.specs.Keeping.{ibr, ibr_read, ibr_free, ibr_cleared, is_scanned, is_met}
+use Rattle.reclaim_api.specs.Chained.{IsChainOf}
 use Rattle.reclaim_api.specs.Holds.{KeepsHeld}
 use Rattle.reclaim_api.proofs.Bagged.{bag_none}
 use Rattle.reclaim_api.proofs.Keeping.{keeps_by, keeps_same}
@@ -66,10 +68,14 @@ read_local l i i' s s' v w e read inside same h = local_since l i i' s s' w insi
     (local_by l l.bag l.retired i s v (read_epoch v e read.taken_out read.drawing) h refl refl (record { announced = refl; start = refl; loaded = refl; pending = refl; rise = read.rise; limit = read.limit }) refl
     h.retired (record { list = (chain_stays Limbo v (read_epoch v e read.taken_out read.drawing) refl (λ j x known is. known) l.bag h.bag).list }) h.whole))
 
+-- and so is the free chain
+pub read_free : (v w : View) (e : ℕ) → HasRead v e w → (free : Chain) → IsChainOf Free v free → IsChainOf Free w free
+read_free v w e read free h = subst (λ (x : View). IsChainOf Free x free) (sym read.view) (record { list = (chain_stays Free v (read_epoch v e read.taken_out read.drawing) refl (λ j x known is. known) free h).list })
+
 -- a record that was taken out may be retired with it as its stamp
 pub read_stamps : (v w : View) (e : ℕ) (r : RefParts) (h : Share) → HasRead v e w → v.own.guard.loaded ≡ [] → HasTaken v r h → HasTaken w r h × ibr.stamps w.own.guard h.taken_number e
 read_stamps v w e r h read calm t = subst (λ (x : View). HasTaken x r h × ibr.stamps x.own.guard h.taken_number e) (sym read.view)
-    (record { within = t.within; known = t.known; standing = t.standing; generation = t.generation; three = t.three }, refl, read.behind r.index h t.known t.standing, calm)
+    (record { within = t.within; known = t.known; standing = t.standing; generation = t.generation; three = t.three }, (refl, read.behind r.index h t.known t.standing, calm))
 
 module _ {S R : Type 0} (p q : Pass S R) (same : since q ≡ since p) where
   -- what is held and known stays

@@ -23,7 +23,7 @@ put_first-requires-clause-apart g c = let s = c.put_row-retired.ensures.step in 
     (then_apart (view c.args.pass.now) c.args.taken s.0 c.args.epoch s.1 c.args.local.now.bag c.requires.local.bag)
 
 -- what putting it in front told
-put : (g : _) (c : goal.After-returns g) → HasPut c.args.local.now.bag (retired (view c.args.pass.now) c.args.taken c.put_row-retired.ensures.step.0 c.args.epoch) c.args.taken (view c.put_first.new.pass)
+put : (g : _) (c : goal.After-local-1 g) → HasPut c.args.local.now.bag (retired (view c.args.pass.now) c.args.taken c.put_row-retired.ensures.step.0 c.args.epoch) c.args.taken (view c.put_first.new.pass)
     (IsPassOf c.args.table.now c.put_row-retired.new.pass) (IsPassOf c.args.table.now c.put_first.new.pass) c.put_first.new.bag
 put g c = put_then c.args.local.now.bag (view c.args.pass.now) (view c.put_row-retired.new.pass) c.put_row-retired.result c.args.taken c.put_row-retired.ensures.step.0 c.args.epoch (view c.put_first.new.pass) _ _ c.put_first.new.bag c.put_row-retired.ensures.record c.put_row-retired.ensures.step.2
     record {
