@@ -1,11 +1,9 @@
 -- What keeps a local part its caller's own: the guard's ends, start and holds, and the bag with all records in limbo.
-use Rattle.std.proofs.Common.{◌≡◌, ◌%◌, ◌<◌, ◌≤◌, ℕ, List, length, get_or, Bool, true, false, Option, sym, refl, ap, ◌∙◌, subst, arith}
+use Rattle.std.proofs.Common.{◌≡◌, ◌%◌, ◌<◌, ◌≤◌, ℕ, List, length, get_or, Bool, true, false, sym, ap, ◌∙◌, subst, arith}
 use Rattle.record_memory.specs.declared.books.Guard.{Guard}
 use Rattle.record_memory.specs.declared.books.Setup.{Setup}
-use Rattle.record_memory.specs.declared.books.Moves.{Moves}
 use Rattle.record_memory.specs.declared.books.View.{View}
 use Rattle.record_memory.specs.declared.books.Standing.TheVariants.{Limbo}
-use Rattle.row_words.specs.Refs.{RefParts}
 use Rattle.row_words.specs.declared.links.Chain.{Chain}
 use Rattle.record_rule.specs.Standings.{is_limbo}
 use Rattle.guard_facts.specs.Announcing.{LAST_EPOCH, reading}

@@ -1,7 +1,7 @@
 -- One interval more: whether it meets the life, or those behind it do.
-use Rattle.std.proofs.Common.{◌≡◌, ◌≢◌, ℕ, ◌-◌, ◌≤◌, ◌<◌, List, [], ◌∷◌, length, get_or, take, drop, Bool, true, false, cond, eqb, ltb, sym, refl, ap, ◌∙◌, subst, arith}
+use Rattle.std.proofs.Common.{◌≡◌, ◌≢◌, ℕ, ◌-◌, ◌≤◌, List, [], ◌∷◌, length, get_or, take, drop, Bool, true, false, cond, eqb, ltb, refl, ap, ◌∙◌, arith}
 use Rattle.std.proofs.Math.Seq.{take-length}
-use Rattle.std.proofs.lemmas.Bool.{eqb-true, eqb-false, ltb-true, ltb-false}
+use Rattle.std.proofs.lemmas.Bool.{eqb-false, ltb-false}
 use Rattle.ibr_facts.specs.Keeping.{is_met}
 
 -- two ends at the front that don't meet it

@@ -1,5 +1,5 @@
 -- A load of the epoch leaves all records, and is the caller's last reading; where nothing waited, no more is held than before.
-use Rattle.std.proofs.Common.{◌≡◌, ℕ, ◌+◌, ◌*◌, ◌<◌, List, [], ◌∷◌, length, Bool, false, cond, not, Option, Some, None, sym, refl, ap, ◌∙◌, subst, arith}
+use Rattle.std.proofs.Common.{◌≡◌, ℕ, ◌+◌, ◌*◌, ◌<◌, List, [], ◌∷◌, length, Bool, false, cond, not, Option, None, sym, refl, ap, ◌∙◌, subst, arith}
 use Rattle.std.proofs.lemmas.Bool.{ne_eqb}
 use Rattle.record_memory.specs.declared.books.Guard.{Guard}
 use Rattle.record_memory.specs.declared.books.View.{View}
@@ -7,24 +7,17 @@ use Rattle.record_memory.specs.declared.books.Share.{Share}
 use Rattle.record_memory.specs.declared.books.Standing.TheVariants.{Limbo, Free}
 use Rattle.row_words.specs.Refs.{RefParts}
 use Rattle.row_words.specs.declared.links.Chain.{Chain}
-use Rattle.record_rule.specs.Facts.{At, LimboRecord}
+use Rattle.record_rule.specs.Facts.{LimboRecord}
 use Rattle.record_rule.specs.Kinds.{control_load}
-use Rattle.record_rule.specs.Links.{with_step, note_in, HasTaken}
-use Rattle.record_rule.specs.World.{StartsWith}
-use Rattle.record_rule.proofs.Rebuilt.{starts_itself}
-use Rattle.record_rule.specs.Freeing.{freed_from, count_freed, guard_loaded, LoadedControl}
-use Rattle.record_table.specs.declared.passes.Pass.{Pass}
-use Rattle.record_table.specs.Handles.{view, since}
-use Rattle.guard_facts.specs.Announcing.{reading}
+use Rattle.record_rule.specs.Links.{with_step, HasTaken}
+use Rattle.record_rule.specs.Freeing.{count_freed, guard_loaded, LoadedControl}
 use Rattle.ibr_facts.specs.Keeping.{ibr, ibr_read, ibr_free, ibr_cleared, is_scanned, is_met}
 use Rattle.reclaim_api.specs.Chained.{IsChainOf}
-use Rattle.reclaim_api.specs.Holds.{KeepsHeld}
 use Rattle.reclaim_api.proofs.Bagged.{bag_none}
-use Rattle.reclaim_api.proofs.Keeping.{keeps_by, keeps_same}
 use Rattle.reclaim_api.proofs.Kept.{chain_stays}
 use Rattle.reclaim_ibr.specs.declared.interval.Interval.{Interval}
 use Rattle.reclaim_ibr.specs.LocalParts.{IsLocal}
-use Rattle.reclaim_ibr.specs.Scans.{read_epoch, HasRead, HasKept}
+use Rattle.reclaim_ibr.specs.Scans.{read_epoch, HasRead}
 use Rattle.reclaim_ibr.proofs.LocalKept.{local_by, local_since}
 use Rattle.reclaim_ibr.proofs.Scanning.{none_free}
 
@@ -76,21 +69,3 @@ read_free v w e read free h = subst (λ (x : View). IsChainOf Free x free) (sym 
 pub read_stamps : (v w : View) (e : ℕ) (r : RefParts) (h : Share) → HasRead v e w → v.own.guard.loaded ≡ [] → HasTaken v r h → HasTaken w r h × ibr.stamps w.own.guard h.taken_number e
 read_stamps v w e r h read calm t = subst (λ (x : View). HasTaken x r h × ibr.stamps x.own.guard h.taken_number e) (sym read.view)
     (record { within = t.within; known = t.known; standing = t.standing; generation = t.generation; three = t.three }, (refl, read.behind r.index h t.known t.standing, calm))
-
-module _ {S R : Type 0} (p q : Pass S R) (same : since q ≡ since p) where
-  -- what is held and known stays
-  pub read_keeps : (e : ℕ) → HasRead (view p) e (view q) → KeepsHeld p q
-  read_keeps e read = keeps_by p q same (λ place. Unit {0}) (λ place f. Unit {0}) (ap (λ (v : View). v.setup) read.view)
-      (λ h. record {
-        step = ap (λ (v : View). v.own.guard.start_step) read.view;
-        updates = ap (λ (v : View). v.own.guard.start_updates) read.view;
-        holds = λ place r here at. subst (λ (v : View). At v.own.guard.holds place (Some r)) (sym read.view) at;
-      })
-      (λ place f n here at. subst (λ (v : View). At (note_in v.own.notes place).words f (Some n)) (sym read.view) at)
-      (λ place here. ap (λ (v : View). length (note_in v.own.notes place).words) read.view)
-      (λ place here. ap (λ (v : View). (note_in v.own.notes place).reached_at) read.view)
-      (subst (λ (v : View). StartsWith v.seen_updates (view p).seen_updates) (sym read.view) (starts_itself (view p).seen_updates))
-
-  -- as it does where a record is retired
-  pub kept_keeps : (r : RefParts) (stamp : ℕ) → HasKept (view p) r stamp (view q) → KeepsHeld p q
-  kept_keeps r stamp kept = keeps_same p q same (ap (λ (v : View). v.setup) kept.still.rest) (ap (λ (v : View). v.own.guard) kept.still.rest) (ap (λ (v : View). v.own.notes) kept.still.rest) (ap (λ (v : View). v.seen_updates) kept.still.rest)

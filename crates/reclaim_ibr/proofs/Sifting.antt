@@ -4,14 +4,12 @@ use Rattle.record_memory.specs.declared.steps.Step.{Step}
 use Rattle.record_memory.specs.declared.books.Moves.{Moves}
 use Rattle.record_memory.specs.declared.books.Setup.{Setup}
 use Rattle.record_memory.specs.declared.books.View.{View}
-use Rattle.record_memory.specs.declared.books.Standing.TheVariants.{Limbo, Free}
+use Rattle.record_memory.specs.declared.books.Standing.TheVariants.{Free}
 use Rattle.row_words.specs.declared.links.Chain.{Chain}
 use Rattle.row_words.specs.declared.links.Freed.{Freed}
 use Rattle.record_rule.specs.ChainRows.{IsRowStep}
 use Rattle.record_rule.specs.Kinds.{idle}
-use Rattle.record_rule.specs.Standings.{is_limbo}
 use Rattle.reclaim_api.specs.Chained.{IsChainOf}
-use Rattle.reclaim_api.specs.Frames.{had}
 use Rattle.reclaim_api.proofs.Stills.{still_setup, still_caller, still_guard, still_moves, still_idle}
 use Rattle.reclaim_api.proofs.Sifted.{HasSifted, sifted_bag, sifted_whole, sifted_mine, sifted_freed, sifted_spent}
 use Rattle.reclaim_ibr.specs.declared.interval.Interval.{Interval}

@@ -1,8 +1,5 @@
-use Rattle.std.proofs.Common.{◌%◌, ℕ, ap, sym, ◌∙◌, refl, subst, arith}
-use Rattle.record_memory.specs.declared.books.View.{View}
-use Rattle.record_memory.specs.declared.books.Standing.TheVariants.{Free}
+use Rattle.std.proofs.Common.{sym, ◌∙◌, refl}
 use Rattle.record_table.specs.Handles.{view, setup_of}
-use Rattle.reclaim_api.proofs.Kept.{chain_stays}
 use Rattle.reclaim_ibr.proofs.Reading.{read_free, read_stamps}
 use Rattle.reclaim_ibr.proofs.PutAway.{kept_after, kept_frees, kept_rest, puts_waiting, puts_scanning, scanned_frees, scanned_rest}
 use Rattle.reclaim_ibr.proofs.retiring.put_away.Goals as goal
