@@ -1,5 +1,5 @@
 -- What a caller holds and knows once it loaded a link and holds, by that load alone, what the link leads to.
-use Rattle.std.proofs.Common.{◌≡◌, ◌≢◌, ℕ, ◌<◌, ◌≤◌, List, length, length-append, set, get_or-set_same, get_or-set_other, cond, eqb, sym, ap, ◌∙◌, subst, refl, arith, Some, None}
+use Rattle.std.proofs.Common.{◌≡◌, ◌≢◌, ℕ, ◌+◌, ◌<◌, ◌≤◌, List, length, length-append, set, get_or-set_same, get_or-set_other, cond, eqb, sym, ap, ◌∙◌, subst, refl, arith, Some, None}
 use Rattle.atomic_table.proofs.Lists.{set_here, set_else}
 use Rattle.record_memory.specs.declared.books.View.{View}
 use Rattle.record_memory.specs.declared.books.Guard.{Guard}
