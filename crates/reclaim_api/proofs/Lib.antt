@@ -9,4 +9,5 @@ pub mod Bagged
 pub mod Retiring
 pub mod Freeings
 pub mod Reached
+pub mod Sifted
 pub mod Rows

@@ -8,3 +8,10 @@ pub mod Bearing
 pub mod Entering
 pub mod Trying
 pub mod Starting
+pub mod Passing
+pub mod Scanning
+pub mod LocalKept
+pub mod Reading
+pub mod Bagging
+pub mod Sifting
+pub mod PutAway

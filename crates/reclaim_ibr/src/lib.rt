@@ -11,9 +11,13 @@
 
 mod announcing;
 mod births;
+mod chains;
 mod epochs;
 mod interval;
+mod meeting;
 mod reaching;
+mod retiring;
+mod scheme;
 
 pub use interval::Interval;
 use record_table::Cover;
