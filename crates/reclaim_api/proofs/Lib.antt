@@ -10,5 +10,6 @@ pub mod Retiring
 pub mod Putting
 pub mod Freeings
 pub mod Reached
+pub mod Sifted
 pub mod Rows
 pub mod Words
