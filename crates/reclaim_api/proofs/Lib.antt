@@ -12,3 +12,4 @@ pub mod Freeings
 pub mod Reached
 pub mod Rows
 pub mod Words
+pub mod Scanning
