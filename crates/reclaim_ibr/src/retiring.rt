@@ -1,4 +1,5 @@
-// Retiring: the epoch is the stamp, the record comes into the bag, and at each sixteenth one the bag is sifted by all intervals.
+// Retiring: the epoch is the stamp, the record comes into the bag, and at each sixteenth one the bag is sifted by all
+// intervals.
 ghost use Rattle.std.specs.Prelude.{◌≡◌, ◌+◌, ◌*◌, ◌<◌, ◌/◌, ◌%◌, ◌^◌, ◌++◌, [], ℕ, List};
 ghost use Rattle.arrayvec.specs.ArrayVec.{array_vec_len};
 ghost use Rattle.record_memory.specs.declared.steps.Step.{Step};
@@ -131,8 +132,8 @@ fn scan<S: Shape>(
     sift_bag(table, pass, &mut local.bag, ends.as_slice(), free)
 }
 
-// Retires a record that the caller took out: it is stamped with the epoch and comes into the bag, and where it is a sixteenth
-// one, the records leave limbo whose life meets no interval.
+// Retires a record that the caller took out: it is stamped with the epoch and comes into the bag, and where it is a
+// sixteenth one, the records leave limbo whose life meets no interval.
 pub(crate) fn put_away<S: Shape>(
     table: &Table<S, Ibr>,
     pass: &mut Pass<S, Ibr>,
