@@ -99,5 +99,6 @@ module _ (v u x w : View) (e upper : ℕ) (read : HasRead v e u) (raised : x ≡
     limit = let a = read.limit in let c = ap (λ (g : Guard). reading g 0) guard_is in omega arith;
   } record {
     lower = let a = h.first in let b = read.rise in let c = lower_is h.words in λ q. omega arith;
-    started = let a = ap (λ (g : Guard). g.start_step) guard_is in let b = ap (λ (y : View). length y.own.steps) then_is in let c = length-append (v.own.steps ++ epoch_load v.own e ∷ []) (word_store (epoch_read v e read.taken_out).own 1 e upper ∷ []) in let d = length-append v.own.steps (epoch_load v.own e ∷ []) in omega arith;
+    started = let a = ap (λ (g : Guard). g.start_step) guard_is in let b = ap (λ (y : View). length y.own.steps) then_is in
+        let c = length-append (v.own.steps ++ epoch_load v.own e ∷ []) (word_store (epoch_read v e read.taken_out).own 1 e upper ∷ []) in let d = length-append v.own.steps (epoch_load v.own e ∷ []) in omega arith;
   } h

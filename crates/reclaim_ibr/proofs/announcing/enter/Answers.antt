@@ -37,4 +37,5 @@ pub returns-clause-frees : goal.returns-clause-frees
 returns-clause-frees g c = records_frees (view c.args.pass.now) (view c.store_end.new.pass) c.args.free.now _ (rest g c) refl refl
 
 pub returns-clause-does : goal.returns-clause-does
-returns-clause-does g c = let r = c.raise.ensures.stored in entered_steps (view c.args.pass.now) (view c.load_epoch-epoch.new.pass) (view c.raise.new.pass) (view c.store_end.new.pass) c.load_epoch-epoch.result r.0 (read g c) r.1 (begun g c) c.requires.local.words (setup_of c.args.table.now) _ refl refl
+returns-clause-does g c = let r = c.raise.ensures.stored in
+    entered_steps (view c.args.pass.now) (view c.load_epoch-epoch.new.pass) (view c.raise.new.pass) (view c.store_end.new.pass) c.load_epoch-epoch.result r.0 (read g c) r.1 (begun g c) c.requires.local.words (setup_of c.args.table.now) _ refl refl
