@@ -23,7 +23,7 @@ for measured in "whole s" "play s" "peak KiB"; do columns+=("$measured, proved" 
 columns+=("bytes a record, proved" plain)
 printf '|' && printf ' %s |' "${columns[@]}" && echo
 printf '|' && printf -- '---|%.0s' "${columns[@]}" && echo
-for reclaimer in none debra hazard; do
+for reclaimer in none debra hazard 2geibr; do
     for callers in 1 2 4; do
         python3 -B "$bench/hash_table.py" "$work" $reclaimer $callers 250000 1000 64
     done
