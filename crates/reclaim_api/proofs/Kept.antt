@@ -1,5 +1,5 @@
 -- Chains that stay the same lists, and records that stay.
-use Rattle.std.proofs.Common.{arith, Bool, true, false, ◌&&◌, ◌≡◌, ◌≢◌, ℕ, ◌-◌, ◌≤◌, [], append-nil, get_or, get_or-set_same, get_or-set_other, sym, refl, ap, ◌∙◌, subst, Option, Some, None}
+use Rattle.std.proofs.Common.{arith, Bool, true, false, ◌&&◌, ◌≡◌, ◌≢◌, ℕ, ◌+◌, ◌-◌, ◌≤◌, [], append-nil, get_or, get_or-set_same, get_or-set_other, sym, refl, ap, ◌∙◌, subst, Option, Some, None}
 use native.Mathlib.Decide.{ℕ_discrete}
 use Rattle.std.proofs.lemmas.List.Elements.{All-weaker}
 use Rattle.record_memory.specs.declared.books.Book.{Book}
@@ -12,8 +12,8 @@ use Rattle.row_words.specs.Refs.{RefParts}
 use Rattle.row_words.specs.declared.links.Chain.{Chain}
 use Rattle.limbo_bags.specs.Chains.{IsKept}
 use Rattle.limbo_bags.proofs.Chains.{chain_kept}
-use Rattle.record_rule.specs.Facts.{CoverFacts}
-use Rattle.record_rule.specs.Guards.{started_if}
+use Rattle.record_rule.specs.Facts.{CoverFacts, Moment}
+use Rattle.record_rule.specs.Guards.{started_at, started_if}
 use Rattle.record_rule.specs.Kinds.{share_in, is_idle_as, is_idle, idle}
 use Rattle.record_rule.specs.Standings.{is_limbo, is_spent}
 use Rattle.record_rule.proofs.Lists.{counts_same, counts_more}
@@ -143,11 +143,19 @@ module _ (v : View) (r : RefParts) (share : Share) (value : ℕ) (taken : HasTak
       (sym (ap is_idle taken.known ∙ ap (λ (q : Standing). is_idle_as q) taken.standing))
 
   -- one more is in limbo, and as many are spent
+  pub retired_had : had is_limbo (retired_with v r share value).own ≡ had is_limbo v.own + 1
+  retired_had = counts_more (is_as is_limbo) v.own.mine (r.index - 1) (Some (retired_share share value)) None (known_within v.own.mine (r.index - 1) share taken.known) (ap (is_as is_limbo) taken.known ∙ ap is_limbo taken.standing) refl
+
   pub retired_limbo : IsLimboLeft v.own → IsLimboLeft (retired_with v r share value).own
-  retired_limbo left = let more = counts_more (is_as is_limbo) v.own.mine (r.index - 1) (Some (retired_share share value)) None (known_within v.own.mine (r.index - 1) share taken.known) (ap (is_as is_limbo) taken.known ∙ ap is_limbo taken.standing) refl in omega arith
+  retired_limbo left = let more = retired_had in omega arith
 
   pub retired_spent : had is_spent (retired_with v r share value).own ≡ had is_spent v.own
   retired_spent = counts_same (is_as is_spent) v.own.mine (r.index - 1) (Some (retired_share share value)) None (known_within v.own.mine (r.index - 1) share taken.known) (sym (ap (is_as is_spent) taken.known ∙ ap is_spent taken.standing))
+
+-- what a guard keeps where it starts anew, it keeps where it may have started
+pub kept_on : {A : Type 0} (f : Guard → A) → ((m : Moment) (g : Guard) (step : ℕ) → f (started_at m g step) ≡ f g) → (b : Bool) (m : Moment) (g : Guard) (step : ℕ) → f (started_if b m g step) ≡ f g
+kept_on f keeps true m g step = keeps m g step
+kept_on f keeps false m g step = refl
 
 -- a guard that is the same goes on
 pub goes_on : (c : CoverFacts) (g h : Guard) → h ≡ g → GoesOn c g h

@@ -7,6 +7,9 @@ pub mod StillChains
 pub mod Counting
 pub mod Bagged
 pub mod Retiring
+pub mod Putting
 pub mod Freeings
 pub mod Reached
+pub mod Sifted
 pub mod Rows
+pub mod Words

@@ -1,5 +1,6 @@
 -- What a caller holds and knows once it loaded a link and holds, by that load alone, what the link leads to.
-use Rattle.std.proofs.Common.{◌≡◌, ◌≢◌, ℕ, ◌<◌, ◌≤◌, List, length, length-append, set, get_or-set_same, get_or-set_other, cond, eqb, sym, ap, ◌∙◌, subst, refl, arith, Some, None}
+use Rattle.std.proofs.Common.{◌≡◌, ◌≢◌, ℕ, ◌+◌, ◌<◌, ◌≤◌, List, length, length-append, set, get_or-set_same, get_or-set_other, Bool, true, false, not, nat_lt, cond, eqb, sym, ap, ◌∙◌, subst, refl, arith, Some, None}
+use Rattle.std.proofs.lemmas.Bool.{ltb-true}
 use Rattle.atomic_table.proofs.Lists.{set_here, set_else}
 use Rattle.record_memory.specs.declared.books.View.{View}
 use Rattle.record_memory.specs.declared.books.Guard.{Guard}
@@ -7,20 +8,32 @@ use Rattle.record_memory.specs.declared.books.Note.{Note}
 use Rattle.set_model.specs.declared.calls.Update.{Update}
 use Rattle.row_words.specs.Refs.{RefParts, LinkParts}
 use Rattle.row_words.specs.Packing.{link_in}
-use Rattle.record_rule.specs.Facts.{At, mark_bit, ShapeFacts, CoverFacts}
-use Rattle.record_rule.specs.Guards.{holding}
+use Rattle.record_rule.specs.Facts.{At, mark_bit, Moment, ShapeFacts, CoverFacts}
+use Rattle.record_rule.specs.Guards.{started_if, holding}
 use Rattle.record_rule.specs.Opening.{no_note}
 use Rattle.record_rule.specs.Links.{Origin, target_of, note_in, note_of, IsFound, ReachedLink}
 use Rattle.record_rule.proofs.Rebuilt.{starts_itself}
 use Rattle.record_table.specs.declared.passes.Pass.{Pass}
 use Rattle.record_table.specs.Handles.{view, since}
-use Rattle.record_table.specs.Nodes.{HasStarted, HoldsThere, reach_at}
+use Rattle.record_table.specs.Nodes.{HasStarted, HoldsThere, is_first, reach_at}
 use Rattle.reclaim_api.specs.Holds.{HasSeen, KeepsElse}
 use Rattle.reclaim_api.proofs.Keeping.{GoesOnAt, keeps_by}
 
 -- a guard that started before holds no more updates than were seen
 pub started_before : {S R : Type 0} (s : ShapeFacts) (c : CoverFacts) (p q : Pass S R) (o : Origin) (place n : ℕ) → ReachedLink s c (view p) o 3 (reach_at p place) n (view q) → (view p).own.guard.start_updates ≤ length (view q).seen_updates
 started_before s c p q o place n told = let r = told.whole.recent.updates_since in let e = ap (λ (l : List Update). length l) told.whole.seen_updates.1 in let f = length-append (view p).seen_updates told.whole.seen_updates.0 in omega arith
+
+-- a guard that starts with a load, or started before it, started later than it began
+pub started_later : {S R : Type 0} (p : Pass S R) → length (since p).own.steps ≤ length (view p).own.steps → (m : Moment) → length (since p).own.steps < (started_if (is_first p) m (view p).own.guard (length (view p).own.steps + 1)).start_step
+started_later p later m = by (is_first p) refl
+  where
+    not_false : (b : Bool) → not b ≡ false → b ≡ true
+    not_false true e = refl
+    not_false false e = let none : ⊥ = cc in absurd none
+
+    by : (b : Bool) → is_first p ≡ b → length (since p).own.steps < (started_if b m (view p).own.guard (length (view p).own.steps + 1)).start_step
+    by true e = omega (arith, later)
+    by false e = ltb-true (length (since p).own.steps) (view p).own.guard.start_step (not_false (nat_lt (length (since p).own.steps) (view p).own.guard.start_step) e)
 
 -- `began` is the caller's guard, started with this load or before
 module _ (s : ShapeFacts) (c : CoverFacts) {S R : Type 0} (p q : Pass S R) (o : Origin) (place n : ℕ) (told : ReachedLink s c (view p) o 3 (reach_at p place) n (view q)) (same : since q ≡ since p)

@@ -23,8 +23,8 @@ module _ (v : View) (r : RefParts) (share : Share) (value : ℕ) (taken : HasTak
   then = retired_with v r share value
 
   -- what the caller knows of it then
-  known_then : share_in then r.index ≡ Some (retired_share share value)
-  known_then = get_or-set_same v.own.mine (r.index - 1) (Some (retired_share share value)) None (known_within v.own.mine (r.index - 1) share taken.known)
+  pub retired_known : share_in then r.index ≡ Some (retired_share share value)
+  retired_known = get_or-set_same v.own.mine (r.index - 1) (Some (retired_share share value)) None (known_within v.own.mine (r.index - 1) share taken.known)
 
   -- It stands in no chain
   pub retired_apart : (standing : Standing) (chain : Chain) → standing ≢ TakenOut → IsChainOf standing v chain → IsApart r (refs_in v chain)
@@ -40,7 +40,7 @@ module _ (v : View) (r : RefParts) (share : Share) (value : ℕ) (taken : HasTak
       is_ref = in_range;
       within = taken.within;
       share = retired_share share value;
-      known = known_then;
+      known = retired_known;
       chained = tt;
       generation = taken.generation;
       long = let a = length-set share.words 2 value in let b = taken.three in omega arith;

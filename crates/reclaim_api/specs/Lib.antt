@@ -6,4 +6,5 @@ pub mod Holds
 pub mod LinkLoads
 pub mod Locals
 pub mod Owned
+pub mod Putting
 pub mod StepForms

@@ -1,4 +1,3 @@
-pub mod Naming
 pub mod Loads
 pub mod Stores
 pub mod Scans

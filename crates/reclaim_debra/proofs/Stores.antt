@@ -1,23 +1,20 @@
 -- A store of the own announcement, and an exchange of the epoch, leave all records.
-use Rattle.std.proofs.Common.{◌≡◌, ◌≢◌, ℕ, ◌+◌, ◌*◌, ◌-◌, ◌<◌, ◌%◌, [], ◌∷◌, ◌++◌, length, Bool, true, false, cond, eqb, sym, refl, ap, ◌∙◌, subst, arith, inl, inr}
+use Rattle.std.proofs.Common.{◌≡◌, ◌≢◌, ℕ, ◌+◌, ◌*◌, ◌<◌, ◌%◌, [], ◌∷◌, ◌++◌, length, Bool, true, false, cond, eqb, sym, refl, ap, ◌∙◌, subst, arith, inl, inr}
 use Rattle.std.specs.Prelude.{◌⊎◌, MatchResult, Result, Ok, Err}
 use Rattle.std.proofs.lemmas.Bool.{eq-eqb, ne_eqb}
-use Rattle.record_memory.specs.declared.steps.Word.{Word}
 use Rattle.record_memory.specs.declared.steps.StepKind.TheVariants.{Exchange}
 use Rattle.record_memory.specs.declared.books.View.{View}
 use Rattle.record_rule.specs.Kinds.{control_step, made_step}
 use Rattle.guard_facts.specs.Announcing.{LAST_EPOCH}
 use Rattle.reclaim_api.specs.StepForms.{epoch_exchange}
 use Rattle.reclaim_debra.specs.Entering.{HasTried}
-use Rattle.record_memory.specs.Memory.{word_at}
-use Rattle.record_rule.specs.ControlSteps.{seeing_if, own_store, StoredWord, StoredControl}
+use Rattle.record_rule.specs.ControlSteps.{seeing_if, own_store, StoredWord}
 use Rattle.record_rule.specs.Links.{with_step, roots_kept}
 use Rattle.debra_facts.specs.Rounds.{starts_by, stored_as}
 use Rattle.debra_facts.specs.Debra.{debra}
 use Rattle.reclaim_debra.specs.declared.bags.Bags.{Bags}
 use Rattle.reclaim_debra.specs.LocalParts.{KeepsBags}
 use Rattle.reclaim_debra.specs.Stamped.{bags_stay}
-use Rattle.reclaim_debra.proofs.Naming.{announced_at}
 
 -- The exchange, by what it found
 left_is : (e n : ℕ) (left : ℕ) → ((n ≡ e) × (left ≡ e + 1)) ⊎ ((n ≢ e) × (left ≡ n)) → left ≡ cond (eqb n e) (e + 1) n
@@ -40,11 +37,6 @@ tried_once v w e (Err n) lt told = tried_by v w e n n lt (inr (told.0, refl)) to
 pub tried_bags : (l : Bags) (v w : View) (e : ℕ) (r : Result (Unit {0}) ℕ) → MatchResult r (λ _. w ≡ made_step v (control_step v Exchange 1 e (e + 1))) (λ found. (found ≡ e → ⊥) × (w ≡ made_step v (control_step v Exchange 1 found found))) → KeepsBags l v → KeepsBags l w
 tried_bags l v w e (Ok u) told k = subst (KeepsBags l) (sym told) (bags_stay l v (made_step v (control_step v Exchange 1 e (e + 1))) l.place refl (λ i h known q. known) (λ t. refl) refl k.place k)
 tried_bags l v w e (Err n) told k = subst (KeepsBags l) (sym told.1) (bags_stay l v (made_step v (control_step v Exchange 1 n n)) l.place refl (λ i h known q. known) (λ t. refl) refl k.place k)
-
--- A store in the first announcement word, by where that lies
-pub stored_own : (v w : View) (word value : ℕ) → word ≡ 20 + (4 * v.own.caller + 0) → v.own.caller < v.setup.callers → (found : ℕ) × StoredControl debra v (word_at v.setup.callers word) value found w → (found : ℕ) × StoredWord debra v 0 value found w
-stored_own v w word value is lt told = subst (λ (k : ℕ). (found : ℕ) × StoredWord debra v k value found w) (let e : 4 * v.own.caller - 4 * v.own.caller ≡ 0 = omega arith in e)
-    (subst (λ (x : Word). (found : ℕ) × StoredControl debra v x value found w) (announced_at v.setup.callers word (4 * v.own.caller) (omega arith) (omega arith)) told)
 
 module _ (v w : View) (value found : ℕ) (told : StoredWord debra v 0 value found w) where
   -- the view that it leaves, whether or not it starts a guard

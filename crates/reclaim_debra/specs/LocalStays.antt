@@ -12,7 +12,7 @@ use Rattle.reclaim_debra.specs.declared.bags.Bags.{Bags}
 use Rattle.reclaim_debra.specs.LocalParts.{IsGuarded, IsLocal}
 use Rattle.reclaim_debra.specs.Stamped.{bags_stay}
 
-guarded_same : (inside : Bool) (s v w : View) → w.setup ≡ v.setup → w.own.caller ≡ v.own.caller → w.own.guard ≡ v.own.guard → IsGuarded inside s v → IsGuarded inside s w
+pub guarded_same : (inside : Bool) (s v w : View) → w.setup ≡ v.setup → w.own.caller ≡ v.own.caller → w.own.guard ≡ v.own.guard → IsGuarded inside s v → IsGuarded inside s w
 guarded_same true s v w setup caller guard g = record {
   active = ap (λ (x : Guard). x.active) guard ∙ g.active;
   started = subst (λ (x : Guard). length s.own.steps < x.start_step) (sym guard) g.started;

@@ -1,18 +1,17 @@
 -- The steps of DEBRA's functions: what entering loads, frees, looks at, tries and announces, and what leaving and retiring store.
-use Rattle.std.specs.Prelude.{◌≡◌, ℕ, ◌+◌, ◌-◌, ◌*◌, ◌<◌, ◌≤◌, ◌==◌, nat_lt, if◌then◌else◌, List, [], ◌∷◌, ◌++◌, All, map, Bool, true, Option, Some, None, slice_index_or}
+use Rattle.std.specs.Prelude.{◌≡◌, ℕ, ◌+◌, ◌*◌, ◌<◌, ◌≤◌, ◌==◌, nat_lt, if◌then◌else◌, List, [], ◌∷◌, ◌++◌, All, map, Bool, Option}
 use Rattle.record_memory.specs.declared.steps.Step.{Step}
 use Rattle.record_memory.specs.declared.books.Setup.{Setup}
 use Rattle.record_memory.specs.declared.books.Book.{Book}
 use Rattle.record_memory.specs.declared.books.Guard.{Guard}
-use Rattle.record_memory.specs.declared.books.Share.{Share}
-use Rattle.record_memory.specs.declared.books.Standing.TheVariants.{Limbo}
 use Rattle.row_words.specs.Refs.{RefParts}
 use Rattle.row_words.specs.declared.links.Freed.{Freed}
 use Rattle.record_rule.specs.Facts.{LimboRecord}
 use Rattle.record_rule.specs.Kinds.{idle}
 use Rattle.record_rule.specs.ChainRows.{IsRowStep, unchained}
-use Rattle.record_rule.specs.Freeing.{limbo_share, freed_from}
+use Rattle.record_rule.specs.Freeing.{freed_from}
 use Rattle.reclaim_api.specs.Bags.{bag_count, count_spent}
+use Rattle.reclaim_api.specs.Putting.{IsHeadFor}
 use Rattle.reclaim_api.specs.StepForms.{IsNoneFreed, epoch_load, epoch_exchange, announcement_load, word_store, stamp_store, chain_store}
 use Rattle.guard_facts.specs.Announcing.{LAST_EPOCH, reading}
 use Rattle.debra_facts.specs.Rounds.{is_passed}
@@ -85,16 +84,11 @@ pub record Leaves (setup : Setup) (b c : Book) : Type 0 where
 abbrev pub Bears : Setup → Book → ℕ → Book → Type 0
 Bears setup b n c = (n ≡ 0) × (c ≡ b)
 
--- the record before which another comes in the bag of this stamp: one in limbo with this stamp, and none where there is none
-abbrev pub IsHeadFor : Book → ℕ → Option RefParts → Type 0
-IsHeadFor b stamp None = bag_count (is_stamped stamp) b ≡ 0
-IsHeadFor b stamp (Some q) = (h : Share) × (slice_index_or b.mine (q.index - 1) None ≡ Some h) × (h.standing ≡ Limbo) × (h.generation ≡ q.generation) × (is_stamped stamp (limbo_share (q.index - 1) h) ≡ true)
-
 -- Retiring: the last reading is the stamp, and the record comes in front of a bag of those with this stamp
 pub record PutsAway (setup : Setup) (b : Book) (r : RefParts) (f : Freed) (c : Book) : Type 0 where
   pub none : IsNoneFreed f
   pub stamped : ℕ
   pub chained : ℕ
   pub next : Option RefParts
-  pub before : IsHeadFor b (reading b.guard 0) next
+  pub before : IsHeadFor (is_stamped (reading b.guard 0)) b next
   pub steps : c.steps ≡ b.steps ++ stamp_store b r (reading b.guard 0) stamped ∷ chain_store b r next chained ∷ []

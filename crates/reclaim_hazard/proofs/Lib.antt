@@ -1,4 +1,3 @@
-pub mod Words
 pub mod Storing
 pub mod Seeing
 pub mod Loads

@@ -1,6 +1,5 @@
 -- One load of a link, to hold what it leads to where the own word names that: what is held and known elsewhere stays, and the guard has started.
-use Rattle.std.proofs.Common.{◌≡◌, ◌≢◌, ℕ, ◌+◌, ◌<◌, ◌≤◌, List, length, set, get_or-set_other, Bool, true, false, not, nat_lt, Option, Some, sym, ap, ◌∙◌, subst, refl, arith}
-use Rattle.std.proofs.lemmas.Bool.{ltb-true}
+use Rattle.std.proofs.Common.{◌≡◌, ◌≢◌, ℕ, ◌+◌, ◌<◌, ◌≤◌, List, length, set, get_or-set_other, Bool, true, false, Option, Some, sym, ap, ◌∙◌, subst, refl, arith}
 use Rattle.atomic_table.proofs.Lists.{set_else}
 use Rattle.record_memory.specs.declared.books.View.{View}
 use Rattle.record_memory.specs.declared.books.Guard.{Guard}
@@ -18,7 +17,8 @@ use Rattle.record_table.proofs.Started.{later_load}
 use Rattle.hazard_facts.specs.Pointers.{named_by, hazard}
 use Rattle.reclaim_api.specs.Holds.{KeepsElse}
 use Rattle.reclaim_api.proofs.Keeping.{GoesOnAt, keeps_by}
-use Rattle.reclaim_api.proofs.Reached.{started_before}
+use Rattle.reclaim_api.proofs.Reached.{started_before, started_later}
+use Rattle.reclaim_api.proofs.Kept.{kept_on}
 
 module _ (s : ShapeFacts) {S R : Type 0} (p q : Pass S R) (o : Origin) (place n : ℕ) (told : ReachedLink s hazard (view p) o 3 (reach_at p place) n (view q)) (same : since q ≡ since p)
     (later : length (since p).own.steps ≤ length (view p).own.steps) where
@@ -35,16 +35,8 @@ module _ (s : ShapeFacts) {S R : Type 0} (p q : Pass S R) (o : Origin) (place n 
   guard_is = ap (λ (v : View). v.own.guard) told.view
 
   -- the guard started with this load or before
-  starts : (b : Bool) → is_first p ≡ b → length (since p).own.steps < (started_if b time (view p).own.guard step).start_step
-  starts true e = omega (arith, later)
-  starts false e = ltb-true (length (since p).own.steps) (view p).own.guard.start_step (not_false (nat_lt (length (since p).own.steps) (view p).own.guard.start_step) e)
-    where
-      not_false : (b : Bool) → not b ≡ false → b ≡ true
-      not_false true e = refl
-      not_false false e = let none : ⊥ = cc in absurd none
-
   pub has_started : HasStarted q
-  has_started = subst (λ (x : View × Guard). length x.0.own.steps < x.1.start_step) (λ k. (sym same k, sym guard_is k)) (starts (is_first p) refl)
+  has_started = subst (λ (x : View × Guard). length x.0.own.steps < x.1.start_step) (λ k. (sym same k, sym guard_is k)) (started_later p later time)
 
   -- no later than with it
   pub start_seen : (view q).own.guard.start_updates ≤ length (view q).seen_updates
@@ -56,19 +48,11 @@ module _ (s : ShapeFacts) {S R : Type 0} (p q : Pass S R) (o : Origin) (place n 
 
   -- its words are what they were
   pub words_still : (view q).own.guard.announced ≡ (view p).own.guard.announced
-  words_still = ap (λ (g : Guard). g.announced) guard_is ∙ by (is_first p)
-    where
-      by : (b : Bool) → (started_if b time (view p).own.guard step).announced ≡ (view p).own.guard.announced
-      by true = refl
-      by false = refl
+  words_still = ap (λ (g : Guard). g.announced) guard_is ∙ kept_on (λ (g : Guard). g.announced) (λ m g at. refl) (is_first p) time (view p).own.guard step
 
   -- and so is what a scan has loaded
   pub loaded_still : (view q).own.guard.loaded ≡ (view p).own.guard.loaded
-  loaded_still = ap (λ (g : Guard). g.loaded) guard_is ∙ by (is_first p)
-    where
-      by : (b : Bool) → (started_if b time (view p).own.guard step).loaded ≡ (view p).own.guard.loaded
-      by true = refl
-      by false = refl
+  loaded_still = ap (λ (g : Guard). g.loaded) guard_is ∙ kept_on (λ (g : Guard). g.loaded) (λ m g at. refl) (is_first p) time (view p).own.guard step
 
   notes_are : (view q).own.notes ≡ set (view p).own.notes place (note_of s told.target (length (view q).seen_updates))
   notes_are = ap (λ (v : View). v.own.notes) told.view

@@ -23,7 +23,7 @@ use Rattle.reclaim_api.proofs.Bagged.{bag_none}
 use Rattle.reclaim_api.proofs.Leaving.{stays_one, left_limbo}
 use Rattle.reclaim_hazard.specs.Running.{scan_loads, is_unnamed}
 use Rattle.reclaim_hazard.specs.Steps.{loaded_words, HasLoadedWords, HasScanned}
-use Rattle.reclaim_hazard.proofs.Words.{announced_at}
+use Rattle.reclaim_api.proofs.Words.{announced_at}
 
 -- one of the words is the record's name
 pub any_named : (t : RefParts) (vs : List ℕ) → list_any (λ (v : ℕ). eqb v (packed_ref (Some t))) vs ≡ is_named t vs

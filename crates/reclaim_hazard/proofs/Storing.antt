@@ -1,19 +1,17 @@
 -- A store in an own announcement word, by where that lies.
-use Rattle.std.proofs.Common.{◌≡◌, ◌+◌, ◌*◌, ◌-◌, ◌<◌, ℕ, length, length-set, Bool, ap, ◌∙◌, subst, arith}
-use Rattle.record_memory.specs.declared.steps.Word.{Word}
+use Rattle.std.proofs.Common.{◌≡◌, ◌+◌, ◌*◌, ◌<◌, ℕ, length, length-set, Bool, ap, ◌∙◌}
 use Rattle.record_memory.specs.Memory.{word_at}
 use Rattle.record_memory.specs.declared.books.View.{View}
-use Rattle.record_rule.specs.ControlSteps.{StoredWord, StoredControl}
+use Rattle.record_rule.specs.ControlSteps.{StoredControl}
 use Rattle.hazard_facts.specs.Pointers.{hazard}
+use Rattle.reclaim_api.proofs.Words.{own_stored}
 use Rattle.reclaim_hazard.specs.declared.retired.Retired.{Retired}
 use Rattle.reclaim_hazard.specs.LocalParts.{IsLocal}
 use Rattle.reclaim_hazard.specs.LocalStays.{local_on}
 use Rattle.reclaim_hazard.specs.Steps.{stored_own}
-use Rattle.reclaim_hazard.proofs.Words.{announced_at}
 
 pub stored_is : (v w : View) (word place value : ℕ) → word ≡ 20 + (4 * v.own.caller + place) → v.own.caller < v.setup.callers → place < 4 → (found : ℕ) × StoredControl hazard v (word_at v.setup.callers word) value found w → (found : ℕ) × (w ≡ stored_own v place value found)
-stored_is v w word place value is lt low told = let s = subst (λ (k : ℕ). (found : ℕ) × StoredWord hazard v k value found w) (let e : 4 * v.own.caller + place - 4 * v.own.caller ≡ place = omega arith in e)
-    (subst (λ (x : Word). (found : ℕ) × StoredControl hazard v x value found w) (announced_at v.setup.callers word (4 * v.own.caller + place) (omega arith) (omega arith)) told) in (s.0, s.1.view)
+stored_is v w word place value is lt low told = let s = own_stored hazard v w word place value is lt low told in (s.0, s.1.view)
 
 -- the local part is the caller's still
 pub local_stored : (l : Retired) (i i' : Bool) (s s' v w : View) (place value found : ℕ) → w ≡ stored_own v place value found → IsLocal l i s v → IsLocal l i' s' w

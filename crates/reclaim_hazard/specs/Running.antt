@@ -1,28 +1,26 @@
 -- The steps of the functions of hazard pointers: a try to hold names its target between two loads of the link, leaving clears the names, and retiring scans them once the bag is full.
-use Rattle.std.specs.Prelude.{◌≡◌, ◌≢◌, ℕ, ◌+◌, ◌-◌, ◌*◌, ◌<◌, ◌≤◌, List, [], ◌∷◌, ◌++◌, length, map, All, Bool, not, Option, Some, None, slice_index_or, slice_set}
+use Rattle.std.specs.Prelude.{◌≡◌, ◌≢◌, ℕ, ◌+◌, ◌-◌, ◌*◌, ◌<◌, ◌≤◌, List, [], ◌∷◌, ◌++◌, length, map, All, Bool, true, not, Option, Some, None, slice_index_or, slice_set}
 use Rattle.record_memory.specs.declared.steps.Word.TheVariants.{Announced}
 use Rattle.record_memory.specs.declared.steps.StepKind.TheVariants.{Load}
 use Rattle.record_memory.specs.declared.steps.Step.{Step}
 use Rattle.record_memory.specs.declared.books.Setup.{Setup}
 use Rattle.record_memory.specs.declared.books.Book.{Book}
 use Rattle.record_memory.specs.declared.books.Share.{Share}
-use Rattle.record_memory.specs.declared.books.Standing.TheVariants.{Limbo}
 use Rattle.row_words.specs.Refs.{RefParts, LinkParts}
 use Rattle.row_words.specs.declared.links.Freed.{Freed}
-use Rattle.row_words.specs.Packing.{packed_ref, packed_number, link_in}
+use Rattle.row_words.specs.Packing.{packed_ref, link_in}
 use Rattle.record_rule.specs.Facts.{mark_bit, LimboRecord}
 use Rattle.record_rule.specs.Kinds.{idle}
 use Rattle.record_rule.specs.Standings.{is_limbo}
-use Rattle.record_rule.specs.Links.{retired_share}
 use Rattle.record_rule.specs.ChainRows.{IsRowStep, unchained}
 use Rattle.record_rule.specs.Freeing.{freed_from, count_freed}
-use Rattle.record_rule.specs.Asides.{chain_word}
 use Rattle.record_table.specs.declared.nodes.Node.{Node}
 use Rattle.reclaim_api.specs.declared.holding.Holding.{Holding}
 use Rattle.reclaim_api.specs.declared.holding.Holding.TheVariants.{Null, Held, Marked, Moved}
 use Rattle.reclaim_api.specs.Frames.{had}
 use Rattle.reclaim_api.specs.Bags.{count_spent}
 use Rattle.reclaim_api.specs.LinkLoads.{link_load}
+use Rattle.reclaim_api.specs.Putting.{IsHeadFor, bagged_share}
 use Rattle.reclaim_api.specs.StepForms.{IsNoneFreed, word_store, stamp_store, chain_store}
 use Rattle.hazard_facts.specs.Pointers.{scan_word, is_named}
 
@@ -77,11 +75,6 @@ pub data Reaches (setup : Setup) (place : ℕ) (from : Node) (field : ℕ) (b : 
   stops : Stops from field b h c → Reaches setup place from field b h c
   confirms : Confirms place from field b h c → Reaches setup place from field b h c
 
--- the record before which another comes in the bag: one in limbo, and none where there is none
-abbrev pub IsHeadFor : Book → Option RefParts → Type 0
-IsHeadFor b None = had is_limbo b ≡ 0
-IsHeadFor b (Some q) = (h : Share) × (slice_index_or b.mine (q.index - 1) None ≡ Some h) × (h.standing ≡ Limbo) × (h.generation ≡ q.generation)
-
 -- how many words a scan loads, by the number of callers
 abbrev pub words_of : Setup → ℕ
 words_of setup = 3 * setup.callers
@@ -119,10 +112,6 @@ pub data ScansIfFull (setup : Setup) (b : Book) (mine : List (Option Share)) (ma
   waits : had is_limbo b + 1 < 2 * words_of setup → Waits mine made f c → ScansIfFull setup b mine made f c
   scans : 2 * words_of setup ≤ had is_limbo b + 1 → Scans setup (idle b) mine made f c → ScansIfFull setup b mine made f c
 
--- what is known of a record that was retired with the stamp 0 and put in front of the bag
-abbrev pub bagged_share : Share → RefParts → Option RefParts → Share
-bagged_share h r next = record (retired_share h (packed_number r.generation 0)) { words = slice_set (retired_share h (packed_number r.generation 0)).words 1 (chain_word r.generation next) }
-
 -- Retiring: the stamp is 0, the record comes in front of the bag, and the bag is scanned where it is full
 pub record PutsAway (setup : Setup) (b : Book) (r : RefParts) (f : Freed) (c : Book) : Type 0 where
   -- what was known of it
@@ -131,7 +120,7 @@ pub record PutsAway (setup : Setup) (b : Book) (r : RefParts) (f : Freed) (c : B
   pub stamped : ℕ
   pub chained : ℕ
   pub next : Option RefParts
-  pub before : IsHeadFor b next
+  pub before : IsHeadFor (λ x. true) b next
   pub made : List Step
-  pub scan : ScansIfFull setup b (slice_set b.mine (r.index - 1) (Some (bagged_share share r next))) made f c
+  pub scan : ScansIfFull setup b (slice_set b.mine (r.index - 1) (Some (bagged_share share r 0 next))) made f c
   pub steps : c.steps ≡ b.steps ++ stamp_store b r 0 stamped ∷ chain_store b r next chained ∷ made

@@ -1,24 +1,19 @@
 -- What each part of a try to hold, of leaving and of a scan leaves of what its pass knows.
-use Rattle.std.specs.Prelude.{◌≡◌, ◌≢◌, ℕ, ◌+◌, List, ◌++◌, length, false, Option, Some, None}
+use Rattle.std.specs.Prelude.{◌≡◌, ◌≢◌, ℕ, ◌+◌, List, ◌++◌, length, false, Some, None}
 use Rattle.record_memory.specs.declared.books.View.{View}
-use Rattle.record_memory.specs.declared.books.Share.{Share}
 use Rattle.record_memory.specs.declared.books.Drawing.{Drawing}
 use Rattle.row_words.specs.Refs.{RefParts, LinkParts}
 use Rattle.row_words.specs.Packing.{packed_ref, packed_link, link_in}
 use Rattle.record_rule.specs.Facts.{mark_bit, ShapeFacts}
 use Rattle.record_rule.specs.Guards.{holding}
 use Rattle.record_rule.specs.ControlSteps.{own_store}
-use Rattle.record_rule.specs.Kinds.{idle, stored}
-use Rattle.record_rule.specs.Asides.{chain_word}
-use Rattle.record_rule.specs.Links.{Origin, with_step, ReachedLink, HasTaken, retired}
-use Rattle.record_rule.specs.ChainRows.{IsStill}
+use Rattle.record_rule.specs.Kinds.{idle}
+use Rattle.record_rule.specs.Links.{Origin, with_step, ReachedLink}
 use Rattle.record_table.specs.declared.nodes.Held.{Held as HeldThere}
 use Rattle.guard_facts.specs.Announcing.{announcing}
 use Rattle.hazard_facts.specs.Pointers.{hazard}
-use Rattle.record_rule.specs.Standings.{is_limbo}
-use Rattle.reclaim_api.specs.Frames.{had}
 use Rattle.reclaim_api.specs.Bags.{LeftLimbo}
-use Rattle.reclaim_hazard.specs.Running.{IsHeadFor, scan_loads, is_unnamed}
+use Rattle.reclaim_hazard.specs.Running.{scan_loads, is_unnamed}
 use Rattle.reclaim_api.specs.declared.holding.Holding.{Holding}
 use Rattle.reclaim_api.specs.declared.holding.Holding.TheVariants.{Null, Held, Marked, Moved}
 
@@ -39,17 +34,6 @@ AnswersBy own first again held Null = ⊥
 AnswersBy own first again held (Held h) = (again ≡ first) × (h ≡ held)
 AnswersBy own first again held (Marked m) = (again ≢ first) × (mark_bit again ≡ 1) × (m ≡ again)
 AnswersBy own first again held (Moved n) = (again ≢ first) × (mark_bit again ≡ 0) × (n ≡ packed_link own again)
-
--- the record was retired with the stamp 0 and put in front of the bag
-pub record HasKept (v : View) (r : RefParts) (w : View) : Type 0 where
-  pub share : Share
-  pub taken : HasTaken v r share
-  pub next : Option RefParts
-  pub before : IsHeadFor v.own next
-  pub still : IsStill (retired v r share 0) w
-  pub view : w ≡ stored (retired v r share 0) r.index 1 (chain_word r.generation next)
-  -- one more is in limbo
-  pub more : had is_limbo w.own ≡ had is_limbo v.own + 1
 
 -- what is known once the first words of a scan were loaded, and not all of them
 abbrev pub loaded_words : View → List ℕ → Drawing → View

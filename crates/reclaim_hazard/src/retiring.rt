@@ -14,9 +14,10 @@ ghost use Rattle.reclaim_api.specs.Chained.{IsChainOf};
 ghost use Rattle.reclaim_api.specs.Frames.{FreesInto, LeavesRest};
 ghost use Rattle.reclaim_api.specs.Locals.{IsLocalOf};
 ghost use Rattle.reclaim_api.specs.Holds.{KeepsHeld};
+ghost use Rattle.reclaim_api.specs.Putting.{HasKept};
 ghost use Rattle.reclaim_hazard.specs.LocalParts.{IsLocal};
 ghost use Rattle.reclaim_hazard.specs.Running.{Scans};
-ghost use Rattle.reclaim_hazard.specs.Steps.{HasKept, HasLoadedWords, HasScanned};
+ghost use Rattle.reclaim_hazard.specs.Steps.{HasLoadedWords, HasScanned};
 
 use crate::chains::sift_bag;
 use crate::{Hazard, Retired};
@@ -39,7 +40,7 @@ pub(crate) fn keep<S: Shape>(
     ensures pass { IsSamePass pass.old pass.new }
     ensures local { IsLocalOf IsLocal local.new pass.new }
     ensures free { (free : Chain) → IsChainOf Free (view pass.old) free → IsChainOf Free (view pass.new) free }
-    ensures kept { HasKept (view pass.old) taken (view pass.new) }
+    ensures kept { HasKept (view pass.old) taken 0 (view pass.new) }
 {
     let retired = table.put_row(pass, taken, 0);
     // A reference is in range.

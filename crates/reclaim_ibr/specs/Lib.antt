@@ -1,1 +1,8 @@
 pub mod LocalParts
+pub mod Running
+pub mod Meeting
+pub mod Retiring
+pub mod Steps
+pub mod Scans
+pub mod LocalStays
+pub mod Adding

@@ -27,9 +27,10 @@ pub record IsLocal (l : Interval) (inside : Bool) (since v : View) : Type 0 wher
   pub callers : v.setup.callers ≡ l.callers
   pub counted : l.caller < l.callers
   pub few : l.callers ≤ 64
-  -- it has its four announcement words, and no scan is on
+  -- it has its four announcement words, no scan is on, and nothing waits to be held
   pub words : length v.own.guard.announced ≡ 4
   pub calm : v.own.guard.loaded ≡ []
+  pub settled : v.own.guard.pending ≡ None
   -- its upper end is what it stored last, and its last reading is an epoch
   pub upper : word_of v.own.guard 1 ≡ l.upper
   pub first : 1 ≤ reading v.own.guard 0

@@ -9,10 +9,15 @@
 //! After Wen, Izraelevitz, Cai, Beadle and Scott, "Interval-based memory reclamation" (PPoPP 2018).
 #![tactic(auto)]
 
+mod announcing;
+mod births;
 mod chains;
+mod epochs;
 mod interval;
 mod meeting;
+mod reaching;
 mod retiring;
+mod scheme;
 
 pub use interval::Interval;
 use record_table::Cover;

@@ -1,6 +1,5 @@
 -- What a caller without reclamation holds once it loaded a link: its guard started with its first load or before.
-use Rattle.std.proofs.Common.{◌≡◌, ℕ, ◌+◌, ◌<◌, ◌≤◌, length, Bool, true, false, not, nat_lt, ap, ◌∙◌, refl, arith, Some}
-use Rattle.std.proofs.lemmas.Bool.{ltb-true}
+use Rattle.std.proofs.Common.{◌≡◌, ℕ, ◌+◌, ◌<◌, ◌≤◌, length, Bool, true, false, ap, ◌∙◌, arith, Some}
 use Rattle.record_memory.specs.declared.books.View.{View}
 use Rattle.record_memory.specs.declared.books.Guard.{Guard}
 use Rattle.row_words.specs.Refs.{RefParts, LinkParts}
@@ -13,7 +12,7 @@ use Rattle.record_table.specs.Handles.{view, since}
 use Rattle.record_table.specs.Nodes.{HasStarted, HoldsThere, is_first, reach_at}
 use Rattle.record_table.proofs.Started.{later_load}
 use Rattle.reclaim_api.specs.Holds.{HasSeen, KeepsElse}
-use Rattle.reclaim_api.proofs.Reached.{started_before}
+use Rattle.reclaim_api.proofs.Reached.{started_before, started_later}
 use Rattle.reclaim_api.proofs.Reached as load
 use Rattle.cover_facts.specs.Keeping.{none}
 use Rattle.cover_facts.proofs.KeepingLaws.{many_then}
@@ -28,15 +27,6 @@ module _ (s : ShapeFacts) {S R : Type 0} (p q : Pass S R) (o : Origin) (place n 
 
   abbrev began : Guard
   began = started_if (is_first p) time (view p).own.guard step
-
-  -- the guard started with this load or before
-  starts : (b : Bool) → is_first p ≡ b → length (since p).own.steps < (started_if b time (view p).own.guard step).start_step
-  starts true e = omega (arith, later)
-  starts false e = ltb-true (length (since p).own.steps) (view p).own.guard.start_step (not_false (nat_lt (length (since p).own.steps) (view p).own.guard.start_step) e)
-    where
-      not_false : (b : Bool) → not b ≡ false → b ≡ true
-      not_false true e = refl
-      not_false false e = let none : ⊥ = cc in absurd none
 
   -- no later than with it
   start_seen : (b : Bool) → (started_if b time (view p).own.guard step).start_updates ≤ length (view q).seen_updates
@@ -54,12 +44,12 @@ module _ (s : ShapeFacts) {S R : Type 0} (p q : Pass S R) (o : Origin) (place n 
 
   -- what was seen
   pub has_seen : (link : LinkParts) → link_in n ≡ link → HasSeen s place o p q link
-  has_seen = load.has_seen s none p q o place n told same began guard_is (starts (is_first p) refl) (start_seen (is_first p)) many small goes
+  has_seen = load.has_seen s none p q o place n told same began guard_is (started_later p later time) (start_seen (is_first p)) many small goes
 
   -- it is held there
   pub holds_there : (r : RefParts) → mark_bit (link_in n) ≡ 0 → (link_in n).target ≡ Some r → HoldsThere q (record { place = place; target = r })
-  holds_there = load.holds_there s none p q o place n told same began guard_is (starts (is_first p) refl) (start_seen (is_first p)) many small goes
+  holds_there = load.holds_there s none p q o place n told same began guard_is (started_later p later time) (start_seen (is_first p)) many small goes
 
   -- what is held and known elsewhere stays
   pub keeps_else : KeepsElse place p q
-  keeps_else = load.keeps_else s none p q o place n told same began guard_is (starts (is_first p) refl) (start_seen (is_first p)) many small goes
+  keeps_else = load.keeps_else s none p q o place n told same began guard_is (started_later p later time) (start_seen (is_first p)) many small goes

@@ -4,8 +4,8 @@ use Rattle.record_memory.specs.declared.books.View.{View}
 use Rattle.record_memory.specs.declared.steps.Word.TheVariants.{Announced}
 use Rattle.record_memory.specs.Memory.{word_at}
 use Rattle.record_table.specs.Handles.{view, setup_of}
+use Rattle.reclaim_api.proofs.Words.{announced_at}
 use Rattle.reclaim_debra.specs.declared.bags.Bags.{Bags}
-use Rattle.reclaim_debra.proofs.Naming.{announced_at}
 use Rattle.reclaim_debra.proofs.Loads.{looked_none, looked_bags, looked_rest, looked_one}
 use Rattle.reclaim_debra.proofs.entering.look.Goals as goal
 

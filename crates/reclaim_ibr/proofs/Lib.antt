@@ -1,0 +1,17 @@
+pub mod Words
+pub mod Confirmed
+pub mod Holding
+pub mod Loads
+pub mod Storing
+pub mod Locals
+pub mod Bearing
+pub mod Entering
+pub mod Trying
+pub mod Starting
+pub mod Passing
+pub mod Scanning
+pub mod LocalKept
+pub mod Reading
+pub mod Bagging
+pub mod Sifting
+pub mod PutAway
