@@ -1,6 +1,6 @@
 //! Tests of Michael's hash table: over a manager that frees nothing, answers worked out by hand at one bucket and at many,
-//! through the calls that any set has, and what a table is refused for; under DEBRA and hazard pointers, records that are
-//! used until their generations are spent, and records that another caller holds.
+//! through the calls that any set has, and what a table is refused for; under each reclaimer that frees,
+//! records that come back or are spent, and records that another caller holds.
 #![tactic(auto)]
 
 #[cfg(test)]
@@ -9,6 +9,8 @@ mod debra;
 mod hazard;
 #[cfg(test)]
 mod holding;
+#[cfg(test)]
+mod ibr;
 #[cfg(test)]
 mod one_caller;
 #[cfg(test)]
