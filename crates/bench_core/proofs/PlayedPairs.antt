@@ -6,7 +6,9 @@ use Rattle.debra_facts.specs.Debra.{debra}
 use Rattle.hazard_facts.specs.Pointers.{hazard}
 use Rattle.hash_runs.specs.DebraRuns.{debra_manner}
 use Rattle.hash_runs.specs.HazardRuns.{hazard_manner}
+use Rattle.hash_runs.specs.IbrRuns.{ibr_manner}
 use Rattle.hash_runs.specs.NoneRuns.{none_manner}
+use Rattle.ibr_facts.specs.Keeping.{ibr}
 use Rattle.list_facts.specs.Michael.{michael}
 use Rattle.record_pieces.specs.Manners.{Manner}
 use Rattle.record_rule.specs.Facts.{CoverFacts}
@@ -38,7 +40,7 @@ by_pair P Plain Debra chosen plan run played plain hash = absurd played
 by_pair P Plain Hazard chosen plan run played plain hash = absurd played
 by_pair P Plain Ibr chosen plan run played plain hash = absurd played
 by_pair P Michael Hazard chosen plan run played plain hash = hash refl hazard hazard_manner played.0 played.1 played.2
-by_pair P Michael Ibr chosen plan run played plain hash = absurd played
+by_pair P Michael Ibr chosen plan run played plain hash = hash refl ibr ibr_manner played.0 played.1 played.2
 by_pair P Lazy Nothing chosen plan run played plain hash = absurd played
 by_pair P Lazy Debra chosen plan run played plain hash = absurd played
 by_pair P Lazy Hazard chosen plan run played plain hash = absurd played

@@ -11,7 +11,9 @@ use Rattle.debra_facts.specs.Debra.{debra}
 use Rattle.hazard_facts.specs.Pointers.{hazard}
 use Rattle.hash_runs.specs.DebraRuns.{debra_manner}
 use Rattle.hash_runs.specs.HazardRuns.{hazard_manner}
+use Rattle.hash_runs.specs.IbrRuns.{ibr_manner}
 use Rattle.hash_runs.specs.NoneRuns.{none_manner}
+use Rattle.ibr_facts.specs.Keeping.{ibr}
 use Rattle.lawful_pairs.specs.Table.{is_lawful}
 use Rattle.lawful_pairs.specs.declared.Unlawful.{Unlawful}
 use Rattle.outside.specs.Faults.{one_more}
@@ -29,7 +31,7 @@ use Rattle.report_text.specs.declared.report.Played.{Played}
 use Rattle.set_model.specs.declared.calls.Reply.{Reply}
 use Rattle.set_model.specs.declared.calls.Reply.TheVariants.{Yes, No, Full}
 use Rattle.set_model.specs.declared.names.ReclaimerName.{ReclaimerName}
-use Rattle.set_model.specs.declared.names.ReclaimerName.TheVariants.{Nothing, Debra, Hazard}
+use Rattle.set_model.specs.declared.names.ReclaimerName.TheVariants.{Nothing, Debra, Hazard, Ibr}
 use Rattle.set_model.specs.declared.names.SetName.{SetName}
 use Rattle.set_model.specs.declared.names.SetName.TheVariants.{Plain, Michael}
 use Rattle.workload_gen.specs.Generated.{generated}
@@ -97,6 +99,7 @@ IsPlayed Plain Nothing chosen plan run = (run.closed ≡ None) × IsPlainRun pla
 IsPlayed Michael Nothing chosen plan run = IsHashPlay none none_manner chosen plan run
 IsPlayed Michael Debra chosen plan run = IsHashPlay debra debra_manner chosen plan run
 IsPlayed Michael Hazard chosen plan run = IsHashPlay hazard hazard_manner chosen plan run
+IsPlayed Michael Ibr chosen plan run = IsHashPlay ibr ibr_manner chosen plan run
 IsPlayed set reclaimer chosen plan run = ⊥
 
 -- A run of the workload on the set and under the reclaimer that the words choose, with its report

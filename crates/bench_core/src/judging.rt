@@ -19,6 +19,7 @@ use listed::Listed;
 use outside::{Gate, Source};
 use reclaim_debra::Debra;
 use reclaim_hazard::Hazard;
+use reclaim_ibr::Ibr;
 use reclaim_none::NoReclaim;
 use report_text::{Checked, WorkloadRefusal};
 use set_model::{AllocatorName, OutOfMemory, ReclaimerName, SetName};
@@ -122,6 +123,9 @@ fn play<R: Threads + Wait + Sync, G: Gate + Sync>(
         }
         (SetName::Michael, ReclaimerName::Hazard) => {
             play_hash::<Hazard, _, R, G>(alloc, rt, gate, chosen, workload)
+        }
+        (SetName::Michael, ReclaimerName::Ibr) => {
+            play_hash::<Ibr, _, R, G>(alloc, rt, gate, chosen, workload)
         }
         _ => unreachable!(),
     }

@@ -82,7 +82,7 @@ const WORDS: [&str; 62] = [
     "play --set michael --reclaimer none --records 63",
     "play --set michael --reclaimer none --records 007",
     // What isn't built yet.
-    "play --set michael --reclaimer 2geibr --records 64",
+    "play --set lazy --reclaimer debra --records 64",
     "play --set lazy --reclaimer none",
     "trial --set lazy --reclaimer debra --callers 2 --calls 0 --keys 1 --seed 7",
     "play --set plain --reclaimer none --allocator once",

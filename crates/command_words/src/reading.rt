@@ -116,9 +116,7 @@ fn is_known_pair(set: SetName, reclaimer: ReclaimerName) -> bool
     ensures { IsTrue result ↔ IsKnownPair set reclaimer }
 {
     match (set, reclaimer) {
-        (SetName::Plain | SetName::Michael, ReclaimerName::Nothing)
-        | (SetName::Michael, ReclaimerName::Hazard)
-        | (SetName::Michael, ReclaimerName::Debra) => true,
+        (SetName::Plain, ReclaimerName::Nothing) | (SetName::Michael, _) => true,
         _ => lawful(set, reclaimer).is_err(),
     }
 }

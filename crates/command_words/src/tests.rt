@@ -145,6 +145,16 @@ fn other_modes(rt: HostRuntime) -> Result<(), Fail> {
     let line =
         "trial --set michael --reclaimer debra --callers 4 --calls 250000 --keys 1000 --seed 7";
     assert_eq!(rt; command_of(alloc, line)?, Some(Command::Trial(reclaimed)));
+    let by_intervals = TrialWords {
+        reclaimer: ReclaimerName::Ibr,
+        ..reclaimed
+    };
+    let line =
+        "trial --set michael --reclaimer 2geibr --callers 4 --calls 250000 --keys 1000 --seed 7";
+    assert_eq!(rt;
+        command_of(alloc, line)?,
+        Some(Command::Trial(by_intervals))
+    );
     Ok(())
 }
 
@@ -157,7 +167,7 @@ const REFUSED: [&str; 9] = [
     "check --set plain",
     "play --set plain --reclaimer none --records 1048576",
     "play --set michael --reclaimer none --records 63",
-    "trial --set michael --reclaimer 2geibr --callers 2 --calls 0 --keys 1 --seed 7",
+    "trial --set lazy --reclaimer none --callers 2 --calls 0 --keys 1 --seed 7",
     "play --set plain --reclaimer none --allocator once",
 ];
 

@@ -2,3 +2,4 @@ pub mod HashRuns
 pub mod NoneRuns
 pub mod DebraRuns
 pub mod HazardRuns
+pub mod IbrRuns

@@ -5,11 +5,13 @@
 mod debra;
 mod hash;
 mod hazard;
+mod ibr;
 mod none;
 mod sparing;
 
 pub use debra::play_hash_debra;
 pub use hash::play_hash;
 pub use hazard::play_hash_hazard;
+pub use ibr::play_hash_ibr;
 pub use none::play_hash_none;
 pub use sparing::show_sparing;

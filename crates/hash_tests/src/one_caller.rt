@@ -1,11 +1,9 @@
 // Calls of one caller, at one bucket and at many.
-ghost use Rattle.std.specs.Prelude.{◌≤◌, ◌<◌, All, IfSome};
-ghost use Rattle.record_table.specs.Closing.{AreAllPasses};
-ghost use Rattle.manager.specs.Callers.{IsResting};
-ghost use Rattle.manager.specs.Made.{passes_of};
+ghost use Rattle.std.specs.Prelude.{◌≤◌, ◌<◌};
 ghost use Rattle.set_model.specs.Machine.{key_of};
 ghost use Rattle.hash_tests.specs.Only.{IsOnlyCallerOf};
 
+use crate::reclaimed::only;
 use alloc_bump::Bump;
 use closed_lists::show_lists;
 use key_sums::size_and_sum;
@@ -25,20 +23,6 @@ type TestHash = MichaelHash<NoReclaim, Bump, NoPool>;
 type TestCaller = Caller<MichaelShape, NoReclaim>;
 
 const GREATEST: u64 = 1_099_511_627_773;
-
-// The caller of a table that has no more.
-fn only(hash: &TestHash, mut callers: Vec<TestCaller>) -> Option<TestCaller>
-    requires passes { AreAllPasses hash.now.lists.manager.table (passes_of callers.items) }
-    requires resting { All (IsResting (λ l inside s v. Unit {0})) callers.items }
-    ensures only { IfSome result (λ caller. IsOnlyCallerOf (λ l inside s v. Unit {0}) hash.now.lists.manager.table caller) }
-{
-    let caller = callers.pop()?;
-    if callers.is_empty() {
-        Some(caller)
-    } else {
-        None
-    }
-}
 
 // Makes the call.
 fn play(hash: &TestHash, caller: &mut TestCaller, call: Call, budget: u32) -> Answer

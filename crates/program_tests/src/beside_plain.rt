@@ -44,7 +44,7 @@ fn agrees<T: Threads + Wait + Sync>(
 }
 
 /// Words that make a workload without shared keys, and words that play it on the hash table.
-const ROWS: [(&str, &str); 9] = [
+const ROWS: [(&str, &str); 11] = [
     (
         "generate --callers 1 --calls 1000 --keys 20 --seed 1",
         "play --set michael --reclaimer none --buckets 1",
@@ -80,6 +80,14 @@ const ROWS: [(&str, &str); 9] = [
     (
         "generate --callers 4 --calls 1000 --keys 100 --seed 3",
         "play --set michael --reclaimer hazard --buckets 3",
+    ),
+    (
+        "generate --callers 4 --calls 1000 --keys 100 --seed 3",
+        "play --set michael --reclaimer 2geibr --buckets 3",
+    ),
+    (
+        "generate --callers 64 --calls 100 --keys 10 --seed 5",
+        "play --set michael --reclaimer 2geibr",
     ),
 ];
 

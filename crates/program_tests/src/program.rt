@@ -16,6 +16,9 @@ pub const DEBRA_WORDS: &str = "play --set michael --reclaimer debra";
 /// The same with hazard pointers.
 pub const HAZARD_WORDS: &str = "play --set michael --reclaimer hazard";
 
+/// The same under 2GEIBR.
+pub const IBR_WORDS: &str = "play --set michael --reclaimer 2geibr";
+
 /// How a run ended, and what its sink got.
 #[derive(Drop)]
 pub struct Outcome {

@@ -4,7 +4,7 @@ use crate::program::{Faults, run_failing, run_on};
 use std::test::Fail;
 
 /// Words, a text, the status and what is printed.
-const ROWS: [(&str, &str, u8, &str); 23] = [
+const ROWS: [(&str, &str, u8, &str); 26] = [
     // No call.
     (
         "play --set michael --reclaimer none",
@@ -157,6 +157,26 @@ const ROWS: [(&str, &str, u8, &str); 23] = [
         0,
         "set michael reclaimer hazard callers 2 calls 4\ncaller 0\ni 5 yes\nr 7 yes\ncaller 1\ni 7 yes\ns 5 yes\nsize 1 sum 5\nrecords drawn 2 reused 0 retired 1 freed 0 limbo 1 free 0 spare 0 spent 0\n",
     ),
+    // Under 2GEIBR the sixteenth retirement of one caller scans, and keeps the record that was born after the sixteenth birth
+    // moved the epoch on.
+    (
+        "play --set michael --reclaimer 2geibr --buckets 1",
+        "setbench 1\ncallers 1\ncaller 0\ni 1\nr 1\ni 2\nr 2\ni 3\nr 3\ni 4\nr 4\ni 5\nr 5\ni 6\nr 6\ni 7\nr 7\ni 8\nr 8\ni 9\nr 9\ni 10\nr 10\ni 11\nr 11\ni 12\nr 12\ni 13\nr 13\ni 14\nr 14\ni 15\nr 15\ni 16\nr 16\nend\n",
+        0,
+        "set michael reclaimer 2geibr callers 1 calls 32\ncaller 0\ni 1 yes\nr 1 yes\ni 2 yes\nr 2 yes\ni 3 yes\nr 3 yes\ni 4 yes\nr 4 yes\ni 5 yes\nr 5 yes\ni 6 yes\nr 6 yes\ni 7 yes\nr 7 yes\ni 8 yes\nr 8 yes\ni 9 yes\nr 9 yes\ni 10 yes\nr 10 yes\ni 11 yes\nr 11 yes\ni 12 yes\nr 12 yes\ni 13 yes\nr 13 yes\ni 14 yes\nr 14 yes\ni 15 yes\nr 15 yes\ni 16 yes\nr 16 yes\nsize 0 sum 0\nrecords drawn 16 reused 0 retired 16 freed 15 limbo 1 free 15 spare 0 spent 0\n",
+    ),
+    (
+        "play --set michael --reclaimer 2geibr",
+        "setbench 1\ncallers 2\ncaller 0\ni 2\ns 2\nr 2\ni 4\ncaller 1\ni 3\nr 5\ns 3\nend\n",
+        0,
+        "set michael reclaimer 2geibr callers 2 calls 7\ncaller 0\ni 2 yes\ns 2 yes\nr 2 yes\ni 4 yes\ncaller 1\ni 3 yes\nr 5 no\ns 3 yes\nsize 2 sum 7\nrecords drawn 3 reused 0 retired 1 freed 0 limbo 1 free 0 spare 0 spent 0\n",
+    ),
+    (
+        "play --set michael --reclaimer 2geibr",
+        "setbench 2\ncallers 2\ncaller 0\ni 5\nphase\nr 7\ncaller 1\ni 7\nphase\ns 5\nend\n",
+        0,
+        "set michael reclaimer 2geibr callers 2 calls 4\ncaller 0\ni 5 yes\nr 7 yes\ncaller 1\ni 7 yes\ns 5 yes\nsize 1 sum 5\nrecords drawn 2 reused 0 retired 1 freed 0 limbo 1 free 0 spare 0 spent 0\n",
+    ),
 ];
 
 #[test]
@@ -172,7 +192,7 @@ fn plays_what_no_order_of_steps_changes(rt: HostRuntime) -> Result<(), Fail> {
 
 /// Trials, and what they print behind the first line. The numbers are those of another program, which draws the calls by
 /// PCG's description and plays each caller's on a set of Python's.
-const TRIALS: [(&str, &str); 6] = [
+const TRIALS: [(&str, &str); 7] = [
     (
         "trial --set michael --reclaimer none --callers 2 --calls 40 --keys 5 --seed 7",
         "trial michael none callers 2 calls 80\ninserted 16 removed 12 found 11\nsize 4 sum 17\n",
@@ -196,6 +216,10 @@ const TRIALS: [(&str, &str); 6] = [
     (
         "trial --set michael --reclaimer hazard --callers 4 --calls 20000 --keys 1000 --seed 7",
         "trial michael hazard callers 4 calls 80000\ninserted 15022 removed 12384 found 12532\nsize 2638 sum 5208886\n",
+    ),
+    (
+        "trial --set michael --reclaimer 2geibr --callers 4 --calls 20000 --keys 1000 --seed 7",
+        "trial michael 2geibr callers 4 calls 80000\ninserted 15022 removed 12384 found 12532\nsize 2638 sum 5208886\n",
     ),
 ];
 

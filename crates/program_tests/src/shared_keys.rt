@@ -102,7 +102,7 @@ fn holds(alloc: Global, end: &Outcome, keys: u32) -> Result<bool, AllocError> {
 }
 
 /// Words that make a workload with shared keys, how many keys there are, and words that play it.
-const ROWS: [(&str, u32, &str); 12] = [
+const ROWS: [(&str, u32, &str); 14] = [
     (
         "generate --callers 2 --calls 2000 --keys 2 --seed 1 --shared yes",
         2,
@@ -163,6 +163,16 @@ const ROWS: [(&str, u32, &str); 12] = [
         50,
         "play --set michael --reclaimer hazard --buckets 7",
     ),
+    (
+        "generate --callers 4 --calls 2000 --keys 10 --seed 2 --shared yes",
+        10,
+        "play --set michael --reclaimer 2geibr --buckets 1",
+    ),
+    (
+        "generate --callers 16 --calls 500 --keys 50 --seed 4 --shared yes",
+        50,
+        "play --set michael --reclaimer 2geibr --buckets 7",
+    ),
 ];
 
 #[test]
@@ -193,8 +203,9 @@ fn callers_without_records_are_told_so(rt: HostRuntime) -> Result<(), Fail> {
     Ok(())
 }
 
-// So few records are used again and again: without that, 12 of them would be all that is ever added under DEBRA, and 39
-// with hazard pointers, where each caller keeps up to eleven until it scans.
+// So few records are used again and again: without that, 12 of them would be all that is ever added under DEBRA, 39 with
+// hazard pointers, where each caller keeps up to eleven until it scans, and 99 under 2GEIBR, where it keeps up to 15 and what
+// its last scan kept.
 #[test]
 fn few_records_are_used_again(rt: HostRuntime) -> Result<(), Fail> {
     let alloc = rt.alloc();
@@ -203,6 +214,7 @@ fn few_records_are_used_again(rt: HostRuntime) -> Result<(), Fail> {
     for words in [
         "play --set michael --reclaimer debra --buckets 1 --records 13",
         "play --set michael --reclaimer hazard --buckets 1 --records 40",
+        "play --set michael --reclaimer 2geibr --buckets 1 --records 100",
     ] {
         let end = run_on(&rt, alloc, words, &text.got)?;
         assert!(rt; holds(alloc, &end, 4)?, "{words}");

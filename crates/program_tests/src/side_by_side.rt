@@ -1,6 +1,6 @@
 // Callers run at the same time, in each phase, and no phase begins before the one ahead of it has ended.
 
-use crate::program::{DEBRA_WORDS, HAZARD_WORDS, WORDS, run_with};
+use crate::program::{DEBRA_WORDS, HAZARD_WORDS, IBR_WORDS, WORDS, run_with};
 use outside::{Gate, MeetGate};
 use std::sync::atomic::{AtomicBool, AtomicU32, Ordering};
 use std::test::Fail;
@@ -31,7 +31,7 @@ const ROWS: [(&str, (u32, u32), (u32, u32)); 8] = [
 #[test]
 fn callers_wait_for_one_another(rt: HostRuntime) -> Result<(), Fail> {
     for (text, held, awaited) in ROWS {
-        for words in [WORDS, DEBRA_WORDS, HAZARD_WORDS] {
+        for words in [WORDS, DEBRA_WORDS, HAZARD_WORDS, IBR_WORDS] {
             let gate = MeetGate::new(held, awaited, 1_000_000_000);
             let end = run_with(&rt, rt.alloc(), &gate, words, text.as_bytes())?;
             assert_eq!(rt; end.status, 0, "{words} at {held:?}");
