@@ -14,6 +14,7 @@ use pool::NoPool;
 use reclaim_api::Scheme;
 use reclaim_debra::Debra;
 use reclaim_hazard::Hazard;
+use reclaim_ibr::Ibr;
 use reclaim_none::NoReclaim;
 use row_words::Generation;
 use set_api::{Answer, ConcurrentSet};
@@ -105,6 +106,7 @@ fn reclaimer(rt: &(impl std::rt::Env + AllocGlobal)) -> Option<ReclaimerName> {
         "none" => Some(ReclaimerName::Nothing),
         "debra" => Some(ReclaimerName::Debra),
         "hazard" => Some(ReclaimerName::Hazard),
+        "2geibr" => Some(ReclaimerName::Ibr),
         _ => None,
     }
 }
@@ -121,7 +123,7 @@ fn main(rt: HostRuntime) -> ExitCode {
         ReclaimerName::Nothing => count::<NoReclaim>(rt.alloc(), calls, keys),
         ReclaimerName::Debra => count::<Debra>(rt.alloc(), calls, keys),
         ReclaimerName::Hazard => count::<Hazard>(rt.alloc(), calls, keys),
-        ReclaimerName::Ibr => return ExitCode::from(2),
+        ReclaimerName::Ibr => count::<Ibr>(rt.alloc(), calls, keys),
     };
     match count {
         Some(yes) => match println!(rt; "yes {yes}") {
