@@ -1,5 +1,4 @@
-// Retiring: the epoch is the stamp, the record comes into the bag, and at each sixteenth one the bag is sifted by all
-// intervals.
+// Retiring: the epoch is the stamp, the record comes into the bag, and each sixteenth one sifts it by all intervals.
 ghost use Rattle.std.specs.Prelude.{◌≡◌, ◌+◌, ◌*◌, ◌<◌, ◌/◌, ◌%◌, ◌^◌, ◌++◌, [], ℕ, List};
 ghost use Rattle.arrayvec.specs.ArrayVec.{array_vec_len};
 ghost use Rattle.record_memory.specs.declared.steps.Step.{Step};
