@@ -1,5 +1,5 @@
 -- Loads and stores of the first words of rows leave all but chain words.
-use Rattle.std.proofs.Common.{◌≡◌, ◌≢◌, ℕ, ◌+◌, ◌-◌, ◌<◌, ◌≤◌, List, [], ◌∷◌, ◌++◌, map, length, get_or, set, length-set, All, cond, sym, refl, ap, ◌∙◌, subst, arith, Option, Some, None, get_or-set_same, get_or-set_other}
+use Rattle.std.proofs.Common.{◌≡◌, ◌≢◌, ℕ, ◌+◌, ◌-◌, ◌<◌, ◌≤◌, List, [], ◌∷◌, ◌++◌, map, length, get_or, set, length-set, All, cond, inl, inr, sym, refl, ap, ◌∙◌, subst, arith, Option, Some, None, get_or-set_same, get_or-set_other}
 use Rattle.std.specs.List.{count_by}
 use Rattle.std.proofs.lemmas.List.{append-nil, append_assoc, set-set}
 use Rattle.std.proofs.lemmas.List.Sums.{sum_by-cons}
@@ -87,7 +87,7 @@ module _ (v w : View) (i f n : ℕ) (is : w ≡ loaded v i f n) where
     rest = refl;
     made = field_load v i f n ∷ [];
     steps = refl;
-    each = one_step (idle v.own) (field_load v i f n) record { index = i; field = f; word = refl; first_three = lt; held = refl; idle = refl };
+    each = one_step (idle v.own) (field_load v i f n) record { index = i; field = f; word = refl; first_three = lt; kind = inl (refl, refl); held = refl; idle = refl };
   }
 
   -- and what the caller has stays its own
@@ -179,5 +179,5 @@ module _ (v w : View) (r : RefParts) (value : ℕ) (next : Option RefParts) (is 
     rest = λ k. record (quiet v) { own = record (quiet v).own { mine = map-set_same unchained v.own.mine (i - 1) (Some after) None unseen k; moves = same_moves o.share.standing o.chained v.own.moves k } };
     made = field_store v i 1 value o.share ∷ [];
     steps = refl;
-    each = one_step (idle v.own) (field_store v i 1 value o.share) record { index = i; field = 1; word = refl; first_three = omega arith; held = refl; idle = refl };
+    each = one_step (idle v.own) (field_store v i 1 value o.share) record { index = i; field = 1; word = refl; first_three = omega arith; kind = inr (refl, refl); held = refl; idle = refl };
   }

@@ -1,6 +1,7 @@
 -- The chain words of the records that a caller has, and what steps on them leave.
-use Rattle.std.specs.Prelude.{◌≡◌, ℕ, zero, suc, ◌<◌, ◌≤◌, List, [], ◌++◌, length, map, All, Option, Some, None, slice_index_or, slice_set}
+use Rattle.std.specs.Prelude.{◌≡◌, ℕ, zero, suc, ◌<◌, ◌≤◌, ◌⊎◌, List, [], ◌++◌, length, map, All, Option, Some, None, slice_index_or, slice_set}
 use Rattle.record_memory.specs.declared.steps.Word.TheVariants.{Field}
+use Rattle.record_memory.specs.declared.steps.StepKind.TheVariants.{Load, Store}
 use Rattle.record_memory.specs.declared.steps.Step.{Step}
 use Rattle.record_memory.specs.declared.books.View.{View}
 use Rattle.record_memory.specs.declared.books.Share.{Share}
@@ -88,16 +89,17 @@ unchained (Some h) = Some (unchained_as h h.standing)
 abbrev pub quiet : View → View
 quiet v = record v { own = record v.own { steps = []; mine = map unchained v.own.mine; drawing = Unsure } }
 
--- a step on one of the first three words of a row, made while so many records were idle
+-- a load of one of the first three words of a row, or a store of a chain word, made while so many records were idle
 pub record IsRowStep (n : ℕ) (t : Step) : Type 0 where
   pub index : ℕ
   pub field : ℕ
   pub word : t.word ≡ Field index field
   pub first_three : field < 3
+  pub kind : ((t.kind ≡ Load) × (t.left ≡ t.found)) ⊎ ((t.kind ≡ Store) × (field ≡ 1))
   pub held : t.held ≡ None
   pub idle : t.idle ≡ n
 
--- the caller made steps on the first words of rows, and nothing but chain words of records that were retired changed
+-- the caller made such steps, and nothing but chain words of records that were retired changed
 pub record IsStill (v w : View) : Type 0 where
   pub rest : quiet w ≡ quiet v
   pub made : List Step
