@@ -112,7 +112,7 @@ pub trait Scheme: Cover {
 
     /// Tries to hold, at `place`, what the link of `from` leads to. `place` is below `PLACES` and isn't
     /// the place of `from`, and `field` is 3, the word that holds a set's link. Where the answer isn't
-    /// `Held`, the place holds nothing.
+    /// `Held`, the caller may use nothing at the place until it holds there again.
     fn reach<S: Shape>(
         table: &Table<S, Self>,
         pass: &mut Pass<S, Self>,
@@ -160,8 +160,8 @@ pub trait Scheme: Cover {
         ensures keeps { KeepsHeld pass.old pass.new }
         ensures does { puts_away (setup_of table.now) (view pass.old).own taken result (view pass.new).own };
 
-    // Of what its pass knows, whether a local part is this caller's depends on its guard, on its records in limbo, and on
-    // how many it retired and how many became its own alone; a guard may start with any load of a link.
+    // Of what its pass knows, whether a local part is this caller's depends on its guard, on its records in limbo or spent,
+    // and on how many it retired and how many became its own alone; a guard may start with any load of a link.
     ghost local_stays: { (l : Self.Local) (inside : Bool) (s v w : View) → SamePart Self.facts v w → is_local l inside s v → is_local l inside s w };
 
     // Each call only adds steps.

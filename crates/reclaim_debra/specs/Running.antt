@@ -32,7 +32,7 @@ pub record Stays (b : Book) (made : List Step) (f : Freed) (c : Book) : Type 0 w
   pub mine : c.mine ≡ b.mine
   pub freed : IsNoneFreed f
 
--- Another epoch was read: the last two readings come behind it, and exactly the records of the third bag leave limbo; the steps then made are on chain words
+-- Another epoch was read: the last two readings come behind it, and exactly the records of the third bag leave limbo; the steps then made are loads of the first three words of rows, and stores of chain words
 pub record Shifts (b : Book) (e : ℕ) (made : List Step) (f : Freed) (c : Book) : Type 0 where
   pub steps : All (IsRowStep (idle c)) made
   pub readings : c.guard.readings ≡ e ∷ reading b.guard 0 ∷ reading b.guard 1 ∷ []

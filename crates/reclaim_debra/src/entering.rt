@@ -120,6 +120,7 @@ pub(crate) fn store_own<S: Shape>(table: &Table<S, Debra>, pass: &mut Pass<S, De
     ensures pass { IsSamePass pass.old pass.new }
     ensures stored { (found : ℕ) × StoredWord debra (view pass.old) 0 value found (view pass.new) }
 {
+    // There are at most 64 callers, so the word's number is in range.
     let _few = table.callers();
     table.store_control(pass, announcement(pass.caller(), 0), value);
 }

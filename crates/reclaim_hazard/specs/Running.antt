@@ -86,7 +86,7 @@ scan_loads idle_then i words = word_loads scan_word idle_then i words
 abbrev pub is_unnamed : List ℕ → LimboRecord → Bool
 is_unnamed words n = not (is_named n.reference words)
 
--- All words are loaded once, in order, and exactly the records that none of them names leave limbo; the steps behind the loads are on the first words of rows
+-- All words are loaded once, in order, and exactly the records that none of them names leave limbo; the steps behind the loads are loads of the first three words of rows, and stores of chain words
 pub record Scans (setup : Setup) (idle_then : ℕ) (mine : List (Option Share)) (made : List Step) (f : Freed) (c : Book) : Type 0 where
   pub words : List ℕ
   pub all : length words ≡ words_of setup

@@ -8,6 +8,6 @@ pub struct Retired {
     pub caller: u32,
     /// How many callers there are, at most 64.
     pub callers: u32,
-    /// The records that it retired and that no scan has freed, the last one first.
+    /// The records that it retired and that no scan has freed.
     pub bag: Chain,
 }

@@ -43,7 +43,7 @@ pub(crate) fn keep<S: Shape>(
     ensures kept { HasKept (view pass.old) taken 0 (view pass.new) }
 {
     let retired = table.put_row(pass, taken, 0);
-    // A reference is in range.
+    // A reference is in range, so its record has a row.
     let _index = retired.index;
     put_first(table, pass, &mut local.bag, retired);
 }
@@ -55,6 +55,7 @@ fn load_word<S: Shape>(table: &Table<S, Hazard>, pass: &mut Pass<S, Hazard>, n: 
     ensures pass { IsSamePass pass.old pass.new }
     ensures loaded { LoadedControl hazard (view pass.old) (20 + scan_word n) result (view pass.new) }
 {
+    // There are at most 64 callers, so the word's number is in range.
     let _few = table.callers();
     table.load_control(pass, announcement(n / 3, n % 3))
 }

@@ -36,6 +36,7 @@ fn store_end<S: Shape>(table: &Table<S, Ibr>, pass: &mut Pass<S, Ibr>, end: u32,
     ensures pass { IsSamePass pass.old pass.new }
     ensures stored { (found : ℕ) × StoredWord ibr (view pass.old) end value found (view pass.new) }
 {
+    // There are at most 64 callers, so the word's number is in range.
     let _few = table.callers();
     table.store_control(pass, announcement(pass.caller(), end), value);
 }

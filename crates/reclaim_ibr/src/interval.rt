@@ -15,6 +15,6 @@ pub struct Interval {
     pub births: u8,
     /// How many records it retired, modulo 16.
     pub retired: u8,
-    /// The records that it retired and that no scan has freed, the last one first.
+    /// The records that it retired and that no scan has freed.
     pub bag: Chain,
 }
