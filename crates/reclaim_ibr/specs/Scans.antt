@@ -1,25 +1,11 @@
--- What each part of retiring but the load of the epoch leaves of what its pass knows.
-use Rattle.std.specs.Prelude.{◌≡◌, ℕ, List, ◌++◌, Option}
+-- What each part of a scan leaves of what its pass knows.
+use Rattle.std.specs.Prelude.{◌≡◌, ℕ, List, ◌++◌}
 use Rattle.record_memory.specs.declared.books.View.{View}
-use Rattle.record_memory.specs.declared.books.Share.{Share}
 use Rattle.record_memory.specs.declared.books.Drawing.{Drawing}
-use Rattle.row_words.specs.Refs.{RefParts}
-use Rattle.record_rule.specs.Asides.{chain_word}
-use Rattle.record_rule.specs.ChainRows.{IsStill}
-use Rattle.record_rule.specs.Kinds.{idle, stored}
-use Rattle.record_rule.specs.Links.{HasTaken, retired}
+use Rattle.record_rule.specs.Kinds.{idle}
 use Rattle.reclaim_api.specs.Bags.{LeftLimbo}
 use Rattle.reclaim_ibr.specs.Meeting.{is_unmet}
-use Rattle.reclaim_ibr.specs.Retiring.{IsHeadFor, scan_loads}
-
--- the record was retired with this stamp and put in front of the bag
-pub record HasKept (v : View) (r : RefParts) (stamp : ℕ) (w : View) : Type 0 where
-  pub share : Share
-  pub taken : HasTaken v r share
-  pub next : Option RefParts
-  pub before : IsHeadFor v.own next
-  pub still : IsStill (retired v r share stamp) w
-  pub view : w ≡ stored (retired v r share stamp) r.index 1 (chain_word r.generation next)
+use Rattle.reclaim_ibr.specs.Retiring.{scan_loads}
 
 -- what is known once the first ends of a scan were loaded, and not all of them
 abbrev pub loaded_ends : View → List ℕ → Drawing → View

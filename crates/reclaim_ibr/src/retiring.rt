@@ -15,9 +15,10 @@ ghost use Rattle.reclaim_api.specs.Frames.{FreesInto, LeavesRest, LeavesRestBut}
 ghost use Rattle.reclaim_api.specs.Guarding.{IsInside};
 ghost use Rattle.reclaim_api.specs.Locals.{IsLocalOf};
 ghost use Rattle.reclaim_api.specs.Holds.{KeepsHeld};
+ghost use Rattle.reclaim_api.specs.Putting.{HasKept};
 ghost use Rattle.reclaim_ibr.specs.LocalParts.{IsLocal};
 ghost use Rattle.reclaim_ibr.specs.Retiring.{scan_word, Scans, PutsAway};
-ghost use Rattle.reclaim_ibr.specs.Scans.{HasKept, HasLoadedEnds, HasScanned};
+ghost use Rattle.reclaim_ibr.specs.Scans.{HasLoadedEnds, HasScanned};
 
 use crate::chains::sift_bag;
 use crate::epochs::read_epoch;
