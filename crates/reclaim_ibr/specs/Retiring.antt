@@ -1,7 +1,5 @@
 -- The steps of retiring under 2GEIBR: the epoch is loaded and stamps the record, which comes in front of the bag, and each sixteenth retirement scans all intervals.
-use Rattle.std.specs.Prelude.{◌≡◌, ◌≢◌, ℕ, ◌+◌, ◌-◌, ◌*◌, ◌/◌, ◌%◌, ◌≤◌, List, [], ◌∷◌, ◌++◌, length, map, All, true, Option, Some, None, slice_index_or, slice_set}
-use Rattle.record_memory.specs.declared.steps.Word.TheVariants.{Announced}
-use Rattle.record_memory.specs.declared.steps.StepKind.TheVariants.{Load}
+use Rattle.std.specs.Prelude.{◌≡◌, ◌≢◌, ℕ, ◌+◌, ◌-◌, ◌*◌, ◌/◌, ◌%◌, ◌≤◌, List, ◌∷◌, ◌++◌, length, map, All, true, Option, Some, None, slice_index_or, slice_set}
 use Rattle.record_memory.specs.declared.steps.Step.{Step}
 use Rattle.record_memory.specs.declared.books.Setup.{Setup}
 use Rattle.record_memory.specs.declared.books.Book.{Book}
@@ -14,7 +12,7 @@ use Rattle.record_rule.specs.Freeing.{freed_from, count_freed}
 use Rattle.guard_facts.specs.Announcing.{LAST_EPOCH, reading}
 use Rattle.reclaim_api.specs.Bags.{count_spent}
 use Rattle.reclaim_api.specs.Putting.{IsHeadFor, bagged_share}
-use Rattle.reclaim_api.specs.Scanning.{Waits}
+use Rattle.reclaim_api.specs.Scanning.{word_loads, Waits}
 use Rattle.reclaim_api.specs.StepForms.{epoch_load, stamp_store, chain_store}
 use Rattle.reclaim_ibr.specs.LocalParts.{EACH}
 use Rattle.reclaim_ibr.specs.Meeting.{is_unmet}
@@ -27,17 +25,12 @@ ends_of setup = 2 * setup.callers
 abbrev pub scan_word : ℕ → ℕ
 scan_word i = 4 * (i / 2) + i % 2
 
--- the loads that found these ends, from the one with this number in the order of a scan on, made while so many records were idle
-abbrev pub scan_loads : ℕ → ℕ → List ℕ → List Step
-scan_loads idle_then i [] = []
-scan_loads idle_then i (n ∷ ns) = record { kind = Load; word = Announced (scan_word i); held = None; found = n; left = n; idle = idle_then } ∷ scan_loads idle_then (i + 1) ns
-
 -- All ends are loaded once, in order, and exactly the records that no interval meets leave limbo; the steps behind the loads are on the first words of rows
 pub record Scans (setup : Setup) (idle_then : ℕ) (mine : List (Option Share)) (made : List Step) (f : Freed) (c : Book) : Type 0 where
   pub ends : List ℕ
   pub all : length ends ≡ ends_of setup
   pub moved : List Step
-  pub loads : made ≡ scan_loads idle_then 0 ends ++ moved
+  pub loads : made ≡ word_loads scan_word idle_then 0 ends ++ moved
   pub rows : All (IsRowStep (idle c)) moved
   pub mine_is : map unchained c.mine ≡ map unchained (freed_from (is_unmet ends) 0 mine)
   pub freed : f.freed ≡ count_freed (is_unmet ends) 0 mine
