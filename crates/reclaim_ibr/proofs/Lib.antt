@@ -1,4 +1,3 @@
-pub mod Words
 pub mod Confirmed
 pub mod Holding
 pub mod Loads

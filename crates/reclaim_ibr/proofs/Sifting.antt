@@ -10,16 +10,16 @@ use Rattle.row_words.specs.declared.links.Freed.{Freed}
 use Rattle.record_rule.specs.ChainRows.{IsRowStep}
 use Rattle.record_rule.specs.Kinds.{idle}
 use Rattle.reclaim_api.specs.Chained.{IsChainOf}
+use Rattle.reclaim_api.specs.Scanning.{word_loads, LoadsAll}
 use Rattle.reclaim_api.proofs.Stills.{still_setup, still_caller, still_guard, still_moves, still_idle}
 use Rattle.reclaim_api.proofs.Sifted.{HasSifted, sifted_bag, sifted_whole, sifted_mine, sifted_freed, sifted_spent}
 use Rattle.reclaim_ibr.specs.declared.interval.Interval.{Interval}
 use Rattle.reclaim_ibr.specs.LocalParts.{EACH, IsLocal}
-use Rattle.reclaim_ibr.specs.Meeting.{meets}
-use Rattle.reclaim_ibr.specs.Retiring.{ends_of, scan_loads, Scans}
-use Rattle.reclaim_ibr.specs.Scans.{HasScanned}
+use Rattle.reclaim_ibr.specs.Meeting.{meets, is_unmet}
+use Rattle.reclaim_ibr.specs.Retiring.{ends_of, scan_word, Scans}
 use Rattle.reclaim_ibr.proofs.LocalKept.{calm_same, local_by, local_since}
 
-module _ (ends : List ℕ) (v u : View) (scanned : HasScanned v ends u) (l : Interval) (i : Bool) (s : View) (h : IsLocal l i s v) (free : Chain) (frees : IsChainOf Free v free)
+module _ (ends : List ℕ) (v u : View) (scanned : LoadsAll scan_word is_unmet v ends u) (l : Interval) (i : Bool) (s : View) (h : IsLocal l i s v) (free : Chain) (frees : IsChainOf Free v free)
     (w : View) (left after : Chain) (f : Freed) (Q : Type 0) (sifted : HasSifted (meets ends) u w l.bag left free after f Q) where
   guard_is : w.own.guard ≡ v.own.guard
   guard_is = still_guard u w sifted.still ∙ scanned.guard
@@ -33,8 +33,8 @@ module _ (ends : List ℕ) (v u : View) (scanned : HasScanned v ends u) (l : Int
 
   pub has_scanned : (setup : Setup) → length ends ≡ ends_of setup → (made : List Step) × (w.own.steps ≡ v.own.steps ++ made) × Scans setup (idle v.own) v.own.mine made f w.own
   has_scanned setup all = (
-    scan_loads (idle v.own) 0 ends ++ sifted.still.made,
-    sifted.still.steps ∙ ap (λ (t : List Step). t ++ sifted.still.made) scanned.steps ∙ append_assoc v.own.steps (scan_loads (idle v.own) 0 ends) sifted.still.made,
+    word_loads scan_word (idle v.own) 0 ends ++ sifted.still.made,
+    sifted.still.steps ∙ ap (λ (t : List Step). t ++ sifted.still.made) scanned.steps ∙ append_assoc v.own.steps (word_loads scan_word (idle v.own) 0 ends) sifted.still.made,
     record {
       ends = ends;
       all = all;

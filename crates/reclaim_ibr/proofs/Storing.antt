@@ -1,20 +1,13 @@
--- A store in an own announcement word, by where that lies: of the upper end, and of the lower one by which a guard begins or ends.
-use Rattle.std.proofs.Common.{◌≡◌, ◌+◌, ◌*◌, ◌-◌, ◌<◌, ◌≤◌, ℕ, cond, Bool, true, false, length, ap, ◌∙◌, subst, arith}
+-- A store in an own announcement word: of the upper end, and of the lower one by which a guard begins or ends.
+use Rattle.std.proofs.Common.{◌≡◌, ◌+◌, ◌≤◌, ℕ, cond, Bool, true, false, length, ap, ◌∙◌, arith}
 use Rattle.std.proofs.lemmas.Bool.{ne_eqb}
-use Rattle.record_memory.specs.declared.steps.Word.{Word}
 use Rattle.record_memory.specs.declared.books.View.{View}
-use Rattle.record_memory.specs.Memory.{word_at}
-use Rattle.record_rule.specs.ControlSteps.{StoredWord, StoredControl, seeing_if}
+use Rattle.record_rule.specs.ControlSteps.{StoredWord, seeing_if}
 use Rattle.record_rule.specs.Links.{with_step, roots_kept}
 use Rattle.guard_facts.specs.Announcing.{entered, left}
 use Rattle.ibr_facts.specs.Keeping.{ibr}
 use Rattle.reclaim_api.specs.StepForms.{word_store}
 use Rattle.reclaim_ibr.specs.Steps.{upper_stored, lower_cleared, HasBegun}
-use Rattle.reclaim_ibr.proofs.Words.{announced_at}
-
-pub stored_is : (v w : View) (word k value : ℕ) → word ≡ 20 + (4 * v.own.caller + k) → v.own.caller < v.setup.callers → k < 4 → (found : ℕ) × StoredControl ibr v (word_at v.setup.callers word) value found w → (found : ℕ) × StoredWord ibr v k value found w
-stored_is v w word k value is lt low told = subst (λ (j : ℕ). (found : ℕ) × StoredWord ibr v j value found w) (let e : 4 * v.own.caller + k - 4 * v.own.caller ≡ k = omega arith in e)
-    (subst (λ (x : Word). (found : ℕ) × StoredControl ibr v x value found w) (announced_at v.setup.callers word (4 * v.own.caller + k) (omega arith) (omega arith)) told)
 
 pub upper_is_stored : (v w : View) (e found : ℕ) → StoredWord ibr v 1 e found w → w ≡ upper_stored v e found
 upper_is_stored v w e found told = told.view

@@ -3,6 +3,5 @@ pub mod Running
 pub mod Meeting
 pub mod Retiring
 pub mod Steps
-pub mod Scans
 pub mod LocalStays
 pub mod Adding

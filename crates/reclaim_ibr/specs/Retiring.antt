@@ -1,32 +1,21 @@
 -- The steps of retiring under 2GEIBR: the epoch is loaded and stamps the record, which comes in front of the bag, and each sixteenth retirement scans all intervals.
-use Rattle.std.specs.Prelude.{◌≡◌, ◌≢◌, ℕ, ◌+◌, ◌-◌, ◌*◌, ◌/◌, ◌%◌, ◌≤◌, List, [], ◌∷◌, ◌++◌, length, map, All, Option, Some, None, slice_index_or, slice_set}
-use Rattle.record_memory.specs.declared.steps.Word.TheVariants.{Announced}
-use Rattle.record_memory.specs.declared.steps.StepKind.TheVariants.{Load}
+use Rattle.std.specs.Prelude.{◌≡◌, ◌≢◌, ℕ, ◌+◌, ◌-◌, ◌*◌, ◌/◌, ◌%◌, ◌≤◌, List, ◌∷◌, ◌++◌, length, map, All, true, Option, Some, None, slice_index_or, slice_set}
 use Rattle.record_memory.specs.declared.steps.Step.{Step}
 use Rattle.record_memory.specs.declared.books.Setup.{Setup}
 use Rattle.record_memory.specs.declared.books.Book.{Book}
 use Rattle.record_memory.specs.declared.books.Share.{Share}
-use Rattle.record_memory.specs.declared.books.Standing.TheVariants.{Limbo}
 use Rattle.row_words.specs.Refs.{RefParts}
 use Rattle.row_words.specs.declared.links.Freed.{Freed}
-use Rattle.row_words.specs.Packing.{packed_number}
 use Rattle.record_rule.specs.Kinds.{idle}
-use Rattle.record_rule.specs.Standings.{is_limbo}
-use Rattle.record_rule.specs.Links.{retired_share}
 use Rattle.record_rule.specs.ChainRows.{IsRowStep, unchained}
 use Rattle.record_rule.specs.Freeing.{freed_from, count_freed}
-use Rattle.record_rule.specs.Asides.{chain_word}
 use Rattle.guard_facts.specs.Announcing.{LAST_EPOCH, reading}
-use Rattle.reclaim_api.specs.Frames.{had}
 use Rattle.reclaim_api.specs.Bags.{count_spent}
-use Rattle.reclaim_api.specs.StepForms.{IsNoneFreed, epoch_load, stamp_store, chain_store}
+use Rattle.reclaim_api.specs.Putting.{IsHeadFor, bagged_share}
+use Rattle.reclaim_api.specs.Scanning.{word_loads, Waits}
+use Rattle.reclaim_api.specs.StepForms.{epoch_load, stamp_store, chain_store}
 use Rattle.reclaim_ibr.specs.LocalParts.{EACH}
 use Rattle.reclaim_ibr.specs.Meeting.{is_unmet}
-
--- the record before which another comes in the bag: one in limbo, and none where there is none
-abbrev pub IsHeadFor : Book → Option RefParts → Type 0
-IsHeadFor b None = had is_limbo b ≡ 0
-IsHeadFor b (Some q) = (h : Share) × (slice_index_or b.mine (q.index - 1) None ≡ Some h) × (h.standing ≡ Limbo) × (h.generation ≡ q.generation)
 
 -- how many ends a scan loads, by the number of callers
 abbrev pub ends_of : Setup → ℕ
@@ -36,23 +25,12 @@ ends_of setup = 2 * setup.callers
 abbrev pub scan_word : ℕ → ℕ
 scan_word i = 4 * (i / 2) + i % 2
 
--- the loads that found these ends, from the one with this number in the order of a scan on, made while so many records were idle
-abbrev pub scan_loads : ℕ → ℕ → List ℕ → List Step
-scan_loads idle_then i [] = []
-scan_loads idle_then i (n ∷ ns) = record { kind = Load; word = Announced (scan_word i); held = None; found = n; left = n; idle = idle_then } ∷ scan_loads idle_then (i + 1) ns
-
--- Nothing is loaded and nothing freed
-pub record Waits (mine : List (Option Share)) (made : List Step) (f : Freed) (c : Book) : Type 0 where
-  pub none : made ≡ []
-  pub freed : IsNoneFreed f
-  pub mine_is : c.mine ≡ mine
-
 -- All ends are loaded once, in order, and exactly the records that no interval meets leave limbo; the steps behind the loads are on the first words of rows
 pub record Scans (setup : Setup) (idle_then : ℕ) (mine : List (Option Share)) (made : List Step) (f : Freed) (c : Book) : Type 0 where
   pub ends : List ℕ
   pub all : length ends ≡ ends_of setup
   pub moved : List Step
-  pub loads : made ≡ scan_loads idle_then 0 ends ++ moved
+  pub loads : made ≡ word_loads scan_word idle_then 0 ends ++ moved
   pub rows : All (IsRowStep (idle c)) moved
   pub mine_is : map unchained c.mine ≡ map unchained (freed_from (is_unmet ends) 0 mine)
   pub freed : f.freed ≡ count_freed (is_unmet ends) 0 mine
@@ -62,10 +40,6 @@ pub record Scans (setup : Setup) (idle_then : ℕ) (mine : List (Option Share)) 
 pub data ScansIfDue (setup : Setup) (b : Book) (mine : List (Option Share)) (made : List Step) (f : Freed) (c : Book) : Type 0 where
   waits : (b.moves.retired + 1) % EACH ≢ 0 → Waits mine made f c → ScansIfDue setup b mine made f c
   scans : (b.moves.retired + 1) % EACH ≡ 0 → Scans setup (idle b) mine made f c → ScansIfDue setup b mine made f c
-
--- what is known of a record that was retired with this stamp and put in front of the bag
-abbrev pub bagged_share : Share → RefParts → ℕ → Option RefParts → Share
-bagged_share h r stamp next = record (retired_share h (packed_number r.generation stamp)) { words = slice_set (retired_share h (packed_number r.generation stamp)).words 1 (chain_word r.generation next) }
 
 -- Retiring: the epoch is the stamp, the record comes in front of the bag, and the bag is scanned where that is due
 pub record PutsAway (setup : Setup) (b : Book) (r : RefParts) (f : Freed) (c : Book) : Type 0 where
@@ -80,7 +54,7 @@ pub record PutsAway (setup : Setup) (b : Book) (r : RefParts) (f : Freed) (c : B
   pub stamped : ℕ
   pub chained : ℕ
   pub next : Option RefParts
-  pub before : IsHeadFor b next
+  pub before : IsHeadFor (λ x. true) b next
   pub made : List Step
   pub scan : ScansIfDue setup b (slice_set b.mine (r.index - 1) (Some (bagged_share share r epoch next))) made f c
   pub steps : c.steps ≡ b.steps ++ epoch_load b epoch ∷ stamp_store b r epoch stamped ∷ chain_store b r next chained ∷ made

@@ -15,9 +15,11 @@ ghost use Rattle.reclaim_api.specs.Frames.{FreesInto, LeavesRest, LeavesRestBut}
 ghost use Rattle.reclaim_api.specs.Guarding.{IsInside};
 ghost use Rattle.reclaim_api.specs.Locals.{IsLocalOf};
 ghost use Rattle.reclaim_api.specs.Holds.{KeepsHeld};
+ghost use Rattle.reclaim_api.specs.Putting.{HasKept};
+ghost use Rattle.reclaim_api.specs.Scanning.{LoadsSome, LoadsAll};
 ghost use Rattle.reclaim_ibr.specs.LocalParts.{IsLocal};
+ghost use Rattle.reclaim_ibr.specs.Meeting.{is_unmet};
 ghost use Rattle.reclaim_ibr.specs.Retiring.{scan_word, Scans, PutsAway};
-ghost use Rattle.reclaim_ibr.specs.Scans.{HasKept, HasLoadedEnds, HasScanned};
 
 use crate::chains::sift_bag;
 use crate::epochs::read_epoch;
@@ -80,7 +82,7 @@ fn load_most<S: Shape>(
     requires local { IsLocalOf IsLocal local.now pass.old }
     requires none { ends.old.items ≡ [] }
     ensures pass { IsSamePass pass.old pass.new }
-    ensures ends { HasLoadedEnds (view pass.old) ends.new.items (view pass.new) }
+    ensures ends { LoadsSome scan_word (view pass.old) ends.new.items (view pass.new) }
     ensures most { array_vec_len ends.new + 1 ≡ 2 * local.now.callers }
 {
     for n in 0..2 * local.callers - 1 {
@@ -99,7 +101,7 @@ fn load_all<S: Shape>(
     requires local { IsLocalOf IsLocal local.now pass.old }
     requires none { ends.old.items ≡ [] }
     ensures pass { IsSamePass pass.old pass.new }
-    ensures ends { HasScanned (view pass.old) ends.new.items (view pass.new) }
+    ensures ends { LoadsAll scan_word is_unmet (view pass.old) ends.new.items (view pass.new) }
     ensures all { array_vec_len ends.new ≡ 2 * local.now.callers }
 {
     load_most(table, pass, local, ends);
