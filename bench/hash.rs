@@ -13,9 +13,9 @@ mod shared;
 #[path = "plain/workload.rs"]
 mod workload;
 
-use reclaimers::{Debra, Hazard, Ibr, Never, Reclaimer};
+use reclaimers::{Debra, Hazard, Ibr, Never, Reclaimer, Words, BIRTH, LINK};
 use report::{print_report, Left, Records};
-use shared::{Shared, KEY, LINK, MARK};
+use shared::{Shared, KEY, MARK};
 use std::io::{self, BufWriter, Write};
 use std::process::ExitCode;
 use std::sync::atomic::Ordering::SeqCst;
@@ -106,11 +106,13 @@ impl Table {
                 Spot::Absent { before, next } => {
                     let record = hand.unwrap_or_else(|| {
                         let record = self.fresh(own);
-                        own.reclaimer.birth(&self.shared, record);
+                        if let Some(birth) = own.reclaimer.birth(&self.shared) {
+                            self.shared.store(record, BIRTH, birth);
+                        }
                         record
                     });
-                    self.shared.word(record, KEY).store(key, SeqCst);
-                    self.shared.word(record, LINK).store(next, SeqCst);
+                    self.shared.store(record, KEY, key);
+                    self.shared.store(record, LINK, next);
                     if self.shared.exchange_link(before, next, record) {
                         return true;
                     }

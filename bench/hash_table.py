@@ -3,9 +3,10 @@
 Use: hash_table.py FOLDER RECLAIMER CALLERS CALLS KEYS BUCKETS. The folder has the programs `setbench`, `hash` and `judge`.
 
 The whole time and the peak memory are those of compare.py. Replies depend on how callers meet, so the last report of
-each program is judged, and compared only where there is one caller and nothing is reclaimed. The play is the time from the end of the input
-until the first byte of the report, less the same time of reading the workload alone: making the table, playing, and
-counting what is left. So it is measured from outside of both programs, in the same way.
+each program is judged, and compared only where there is one caller and nothing is reclaimed. The play is the time from
+the end of the input until the first byte of the report, less the same time of reading the workload alone: making the table,
+playing, and counting what is left. So it is measured from outside of both programs, in the same way. The nanoseconds of a
+call are those of the play over the calls of one caller, while the others make theirs.
 """
 import os
 import shutil
@@ -72,7 +73,8 @@ def main():
     row = [reclaimer, callers, calls, keys, buckets]
     for at, form in enumerate((".3f", ".3f", ".0f")):
         row += [f"{proved[at]:{form}}", f"{plain[at]:{form}}", f"{proved[at] / plain[at]:.2f}"]
-    row += [f"{proved[2] * 1024 / records:.0f}", f"{plain[2] * 1024 / records:.0f}"]
+    row += [f"{program[2] * 1024 / records:.0f}" for program in (proved, plain)]
+    row += [f"{program[1] * 1e9 / int(calls):.0f}" for program in (proved, plain)]
     print("| " + " | ".join(row) + " |", flush=True)
 
 

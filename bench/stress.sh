@@ -3,8 +3,8 @@
 # 1,000 without reclamation, 250 each with 2, 4, 16 and 64 callers. `stress.sh debra` plays 900 under DEBRA, 300 each with 2,
 # 4 and 16 callers, on few records more than there are keys, so that most insertions use a record again; `stress.sh hazard`
 # as many with hazard pointers, where each caller may keep six records for each caller, and `stress.sh 2geibr` as many under
-# 2GEIBR, where each caller keeps 15 and what its last scan kept. Sizes, seeds, phases, buckets and records vary with the
-# workload's number, and each run of this script plays the same ones. README.md, beside this file, says more.
+# 2GEIBR, where it may keep sixteen. Sizes, seeds, phases, buckets and records vary with the workload's number, and each run
+# of this script plays the same ones. README.md, beside this file, says more.
 #
 # It prints what it judged, and ends with status 1 at the first report that is refused, whose workload, words and report
 # it keeps and names. It wants bash, awk and rustc, and `rt` in PATH where the proved program has to be built.
@@ -55,8 +55,8 @@ draw() {
 }
 
 # few_records: sets the sizes of the workload with this number, of which most insertions have to use a record again: beside
-# the buckets and the keys there are 2 to 9 records for each caller, and what its bag may have with hazard pointers, or two
-# scans' worth under 2GEIBR.
+# the buckets and the keys there are 2 to 9 records for each caller, and with hazard pointers and under 2GEIBR as many as it
+# retires between two scans, of which the last one may free none.
 few_records() {
     local by_number=(2 4 16)
     callers=${by_number[$((number % 3))]}
@@ -69,8 +69,10 @@ few_records() {
     draw 3 && phase=0
     if [ "$drawn" = 0 ]; then draw 4 && phase=$((calls / (drawn + 2) + 1)); fi
     local bag=0
-    [ "$reclaimer" = hazard ] && bag=$((6 * callers))
-    [ "$reclaimer" = 2geibr ] && bag=32
+    case $reclaimer in
+    hazard) bag=$((6 * callers)) ;;
+    2geibr) bag=16 ;;
+    esac
     draw 8 && records=$((buckets + keys + callers * (drawn + 2 + bag)))
 }
 

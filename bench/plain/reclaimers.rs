@@ -2,28 +2,50 @@
 //! TPDS 2004) or 2GEIBR (Wen and others, PPoPP 2018), each by the loads and stores of shared words that the proved program
 //! makes for it. Bags are vectors of a caller's own.
 
-use crate::shared::{Shared, BIRTH, LINK, MARK, STAMP};
 use std::mem;
-use std::sync::atomic::Ordering::SeqCst;
+use std::sync::atomic::{AtomicU64, Ordering::SeqCst};
+
+/// The words of a row that reclaimers load or store.
+pub const BIRTH: usize = 0;
+pub const STAMP: usize = 2;
+pub const LINK: usize = 3;
+
+/// The words that all callers share. A record is named by what a link to it holds, and 0 is none.
+pub trait Words {
+    /// In a link: its record is being taken out. The rest is the next record.
+    const MARK: u64;
+
+    fn callers(&self) -> usize;
+
+    fn epoch(&self) -> &AtomicU64;
+
+    /// One of the four announcements of a caller.
+    fn announced(&self, caller: usize, number: usize) -> &AtomicU64;
+
+    /// Loads what a word of a record holds.
+    fn load(&self, record: u64, field: usize) -> u64;
+
+    fn store(&self, record: u64, field: usize, value: u64);
+}
 
 /// What a caller keeps for it between its calls.
 pub trait Reclaimer: Default + Send {
     const NAME: &'static str;
 
     /// A call begins. Records of the caller's bags may come into `free`.
-    fn enter(&mut self, shared: &Shared, caller: usize, free: &mut Vec<u64>);
+    fn enter<W: Words>(&mut self, words: &W, caller: usize, free: &mut Vec<u64>);
 
     /// A call ends.
-    fn leave(&mut self, shared: &Shared, caller: usize);
+    fn leave<W: Words>(&mut self, words: &W, caller: usize);
 
     /// Loads the link of a record and holds, at this place, what it leads to. `None`: the link, or the epoch, moved.
-    fn hold(&mut self, shared: &Shared, caller: usize, place: usize, from: u64) -> Option<u64>;
+    fn hold<W: Words>(&mut self, words: &W, caller: usize, place: usize, from: u64) -> Option<u64>;
 
-    /// A record is about to be linked.
-    fn birth(&mut self, shared: &Shared, record: u64);
+    /// A record becomes the caller's, to be linked. The birth that its row gets, where records have one.
+    fn birth<W: Words>(&mut self, words: &W) -> Option<u64>;
 
     /// A record was taken out.
-    fn retire(&mut self, shared: &Shared, caller: usize, record: u64, free: &mut Vec<u64>);
+    fn retire<W: Words>(&mut self, words: &W, caller: usize, record: u64, free: &mut Vec<u64>);
 
     /// How many records wait in its bags.
     fn limbo(&self) -> usize;
@@ -38,17 +60,20 @@ pub struct Never {
 impl Reclaimer for Never {
     const NAME: &'static str = "none";
 
-    fn enter(&mut self, _: &Shared, _: usize, _: &mut Vec<u64>) {}
+    fn enter<W: Words>(&mut self, _: &W, _: usize, _: &mut Vec<u64>) {}
 
-    fn leave(&mut self, _: &Shared, _: usize) {}
+    fn leave<W: Words>(&mut self, _: &W, _: usize) {}
 
-    fn hold(&mut self, shared: &Shared, _: usize, _: usize, from: u64) -> Option<u64> {
-        Some(shared.load(from, LINK))
+    fn hold<W: Words>(&mut self, words: &W, _: usize, _: usize, from: u64) -> Option<u64> {
+        Some(words.load(from, LINK))
     }
 
-    fn birth(&mut self, _: &Shared, _: u64) {}
+    fn birth<W: Words>(&mut self, _: &W) -> Option<u64> {
+        None
+    }
 
-    fn retire(&mut self, _: &Shared, _: usize, _: u64, _: &mut Vec<u64>) {
+    fn retire<W: Words>(&mut self, words: &W, _: usize, record: u64, _: &mut Vec<u64>) {
+        words.store(record, STAMP, 0);
         self.retired += 1;
     }
 
@@ -73,37 +98,39 @@ impl Default for Debra {
 impl Reclaimer for Debra {
     const NAME: &'static str = "debra";
 
-    fn enter(&mut self, shared: &Shared, caller: usize, free: &mut Vec<u64>) {
-        let epoch = shared.epoch().load(SeqCst);
+    fn enter<W: Words>(&mut self, words: &W, caller: usize, free: &mut Vec<u64>) {
+        let epoch = words.epoch().load(SeqCst);
         if epoch != self.reading {
             free.append(&mut self.bags[2]);
             self.bags.rotate_right(1);
             (self.reading, self.place) = (epoch, 0);
         }
-        if self.place < shared.callers {
-            let found = shared.announced(self.place, 0).load(SeqCst);
+        if self.place < words.callers() {
+            let found = words.announced(self.place, 0).load(SeqCst);
             if found % 2 == 0 || found == 2 * epoch + 1 {
                 self.place += 1;
-                if self.place == shared.callers {
-                    let _ = shared.epoch().compare_exchange(epoch, epoch + 1, SeqCst, SeqCst);
+                if self.place == words.callers() {
+                    let _ = words.epoch().compare_exchange(epoch, epoch + 1, SeqCst, SeqCst);
                 }
             }
         }
-        shared.announced(caller, 0).store(2 * epoch + 1, SeqCst);
+        words.announced(caller, 0).store(2 * epoch + 1, SeqCst);
     }
 
-    fn leave(&mut self, shared: &Shared, caller: usize) {
-        shared.announced(caller, 0).store(2 * self.reading, SeqCst);
+    fn leave<W: Words>(&mut self, words: &W, caller: usize) {
+        words.announced(caller, 0).store(2 * self.reading, SeqCst);
     }
 
-    fn hold(&mut self, shared: &Shared, _: usize, _: usize, from: u64) -> Option<u64> {
-        Some(shared.load(from, LINK))
+    fn hold<W: Words>(&mut self, words: &W, _: usize, _: usize, from: u64) -> Option<u64> {
+        Some(words.load(from, LINK))
     }
 
-    fn birth(&mut self, _: &Shared, _: u64) {}
+    fn birth<W: Words>(&mut self, _: &W) -> Option<u64> {
+        None
+    }
 
-    fn retire(&mut self, shared: &Shared, _: usize, record: u64, _: &mut Vec<u64>) {
-        shared.word(record, STAMP).store(self.reading, SeqCst);
+    fn retire<W: Words>(&mut self, words: &W, _: usize, record: u64, _: &mut Vec<u64>) {
+        words.store(record, STAMP, self.reading);
         self.bags[0].push(record);
     }
 
@@ -122,35 +149,37 @@ pub struct Hazard {
 impl Reclaimer for Hazard {
     const NAME: &'static str = "hazard";
 
-    fn enter(&mut self, _: &Shared, _: usize, _: &mut Vec<u64>) {}
+    fn enter<W: Words>(&mut self, _: &W, _: usize, _: &mut Vec<u64>) {}
 
-    fn leave(&mut self, shared: &Shared, caller: usize) {
+    fn leave<W: Words>(&mut self, words: &W, caller: usize) {
         for place in 0..3 {
-            shared.announced(caller, place).store(0, SeqCst);
+            words.announced(caller, place).store(0, SeqCst);
         }
     }
 
-    fn hold(&mut self, shared: &Shared, caller: usize, place: usize, from: u64) -> Option<u64> {
-        let link = shared.load(from, LINK);
-        if link == 0 || link & MARK != 0 {
+    fn hold<W: Words>(&mut self, words: &W, caller: usize, place: usize, from: u64) -> Option<u64> {
+        let link = words.load(from, LINK);
+        if link == 0 || link & W::MARK != 0 {
             return Some(link);
         }
-        shared.announced(caller, place).store(link, SeqCst);
-        let again = shared.load(from, LINK);
-        (again == link || again & MARK != 0).then_some(again)
+        words.announced(caller, place).store(link, SeqCst);
+        let again = words.load(from, LINK);
+        (again == link || again & W::MARK != 0).then_some(again)
     }
 
-    fn birth(&mut self, _: &Shared, _: u64) {}
+    fn birth<W: Words>(&mut self, _: &W) -> Option<u64> {
+        None
+    }
 
-    fn retire(&mut self, shared: &Shared, _: usize, record: u64, free: &mut Vec<u64>) {
-        shared.word(record, STAMP).store(0, SeqCst);
+    fn retire<W: Words>(&mut self, words: &W, _: usize, record: u64, free: &mut Vec<u64>) {
+        words.store(record, STAMP, 0);
         self.bag.push(record);
-        if self.bag.len() < 6 * shared.callers {
+        if self.bag.len() < 6 * words.callers() {
             return;
         }
         self.named.clear();
-        let places = (0..shared.callers).flat_map(|other| (0..3).map(move |place| (other, place)));
-        self.named.extend(places.map(|(other, place)| shared.announced(other, place).load(SeqCst)));
+        let places = (0..words.callers()).flat_map(|other| (0..3).map(move |place| (other, place)));
+        self.named.extend(places.map(|(other, place)| words.announced(other, place).load(SeqCst)));
         let named = &self.named;
         let (kept, gone): (Vec<u64>, Vec<u64>) = mem::take(&mut self.bag).into_iter().partition(|it| named.contains(it));
         self.bag = kept;
@@ -175,52 +204,52 @@ pub struct Ibr {
 impl Reclaimer for Ibr {
     const NAME: &'static str = "2geibr";
 
-    fn enter(&mut self, shared: &Shared, caller: usize, _: &mut Vec<u64>) {
-        self.upper = shared.epoch().load(SeqCst);
-        shared.announced(caller, 1).store(self.upper, SeqCst);
-        shared.announced(caller, 0).store(self.upper, SeqCst);
+    fn enter<W: Words>(&mut self, words: &W, caller: usize, _: &mut Vec<u64>) {
+        self.upper = words.epoch().load(SeqCst);
+        words.announced(caller, 1).store(self.upper, SeqCst);
+        words.announced(caller, 0).store(self.upper, SeqCst);
     }
 
-    fn leave(&mut self, shared: &Shared, caller: usize) {
-        shared.announced(caller, 0).store(0, SeqCst);
+    fn leave<W: Words>(&mut self, words: &W, caller: usize) {
+        words.announced(caller, 0).store(0, SeqCst);
     }
 
-    fn hold(&mut self, shared: &Shared, caller: usize, _: usize, from: u64) -> Option<u64> {
-        let link = shared.load(from, LINK);
-        if link == 0 || link & MARK != 0 {
+    fn hold<W: Words>(&mut self, words: &W, caller: usize, _: usize, from: u64) -> Option<u64> {
+        let link = words.load(from, LINK);
+        if link == 0 || link & W::MARK != 0 {
             return Some(link);
         }
-        let epoch = shared.epoch().load(SeqCst);
+        let epoch = words.epoch().load(SeqCst);
         if epoch == self.upper {
             return Some(link);
         }
-        shared.announced(caller, 1).store(epoch, SeqCst);
+        words.announced(caller, 1).store(epoch, SeqCst);
         self.upper = epoch;
         None
     }
 
-    fn birth(&mut self, shared: &Shared, record: u64) {
+    fn birth<W: Words>(&mut self, words: &W) -> Option<u64> {
         self.births += 1;
         if self.births % 16 == 0 {
-            let epoch = shared.epoch().load(SeqCst);
-            let _ = shared.epoch().compare_exchange(epoch, epoch + 1, SeqCst, SeqCst);
+            let epoch = words.epoch().load(SeqCst);
+            let _ = words.epoch().compare_exchange(epoch, epoch + 1, SeqCst, SeqCst);
         }
-        shared.word(record, BIRTH).store(shared.epoch().load(SeqCst), SeqCst);
+        Some(words.epoch().load(SeqCst))
     }
 
-    fn retire(&mut self, shared: &Shared, _: usize, record: u64, free: &mut Vec<u64>) {
-        shared.word(record, STAMP).store(shared.epoch().load(SeqCst), SeqCst);
+    fn retire<W: Words>(&mut self, words: &W, _: usize, record: u64, free: &mut Vec<u64>) {
+        words.store(record, STAMP, words.epoch().load(SeqCst));
         self.bag.push(record);
         self.retired += 1;
         if self.retired % 16 != 0 {
             return;
         }
         self.ends.clear();
-        let end = |other, number| shared.announced(other, number).load(SeqCst);
-        self.ends.extend((0..shared.callers).map(|other| (end(other, 0), end(other, 1))));
+        let end = |other, number| words.announced(other, number).load(SeqCst);
+        self.ends.extend((0..words.callers()).map(|other| (end(other, 0), end(other, 1))));
         let ends = &self.ends;
         let is_met = |record: &u64| {
-            let (birth, stamp) = (shared.load(*record, BIRTH), shared.load(*record, STAMP));
+            let (birth, stamp) = (words.load(*record, BIRTH), words.load(*record, STAMP));
             ends.iter().any(|(lower, upper)| *lower != 0 && *lower <= stamp && *upper >= birth)
         };
         let (kept, gone): (Vec<u64>, Vec<u64>) = mem::take(&mut self.bag).into_iter().partition(is_met);

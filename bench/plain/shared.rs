@@ -1,23 +1,20 @@
 //! The words that all callers share: the number of records drawn, the epoch, four announcements of each caller, and rows
 //! of eight words.
 
+use crate::reclaimers::{Words, LINK};
 use std::sync::atomic::{AtomicU64, Ordering::SeqCst};
 
 /// Where the words of other kinds begin. Word 0 is the number of records drawn, the roots among them, and word 1 the epoch.
 const ANNOUNCED: usize = 20;
-/// The words of a row that hold something beside its birth and its stamp. Record 0 is none.
-pub const LINK: usize = 3;
+/// The word of a row that holds its key.
 pub const KEY: usize = 4;
-/// In a link: its record is being taken out. The rest is the next record.
+/// In a link: its record is being taken out.
 pub const MARK: u64 = 1 << 63;
-/// The words of a row that 2GEIBR writes.
-pub const BIRTH: usize = 0;
-pub const STAMP: usize = 2;
 
 pub struct Shared {
     words: Vec<AtomicU64>,
     rows: usize,
-    pub callers: usize,
+    callers: usize,
     /// How many words lie between the announcements of a caller and those of the next one, at least 4.
     stride: usize,
 }
@@ -37,24 +34,36 @@ impl Shared {
         &self.words[0]
     }
 
-    pub fn epoch(&self) -> &AtomicU64 {
-        &self.words[1]
-    }
-
-    /// One of the four announcements of a caller.
-    pub fn announced(&self, caller: usize, number: usize) -> &AtomicU64 {
-        &self.words[ANNOUNCED + self.stride * caller + number]
-    }
-
-    pub fn word(&self, record: u64, field: usize) -> &AtomicU64 {
+    fn word(&self, record: u64, field: usize) -> &AtomicU64 {
         &self.words[self.rows + 8 * (record as usize - 1) + field]
-    }
-
-    pub fn load(&self, record: u64, field: usize) -> u64 {
-        self.word(record, field).load(SeqCst)
     }
 
     pub fn exchange_link(&self, record: u64, old: u64, new: u64) -> bool {
         self.word(record, LINK).compare_exchange(old, new, SeqCst, SeqCst).is_ok()
+    }
+}
+
+/// Records are named by their numbers, from 1.
+impl Words for Shared {
+    const MARK: u64 = MARK;
+
+    fn callers(&self) -> usize {
+        self.callers
+    }
+
+    fn epoch(&self) -> &AtomicU64 {
+        &self.words[1]
+    }
+
+    fn announced(&self, caller: usize, number: usize) -> &AtomicU64 {
+        &self.words[ANNOUNCED + self.stride * caller + number]
+    }
+
+    fn load(&self, record: u64, field: usize) -> u64 {
+        self.word(record, field).load(SeqCst)
+    }
+
+    fn store(&self, record: u64, field: usize, value: u64) {
+        self.word(record, field).store(value, SeqCst);
     }
 }

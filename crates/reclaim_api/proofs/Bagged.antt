@@ -80,6 +80,19 @@ none_from t never i (Some h ∷ xs) = let a = none_from t never (i + 1) xs in le
 pub bag_none : (t : LimboRecord → Bool) (b : Book) → ((x : LimboRecord) → t x ≡ false) → bag_count t b ≡ 0
 bag_none t b never = none_from t never 0 b.mine
 
+-- Where none leaves limbo, all is known as before
+one_stays : (t : LimboRecord → Bool) (i : ℕ) (o : Option Share) → leaves_one t i o ≡ 0 → freed_of t i o ≡ o
+one_stays t i None e = refl
+one_stays t i (Some h) e = by (leaves_limbo t i h) e
+  where
+    by : (b : Bool) → ◌≡◌ {A = ℕ} (cond b 1 0) 0 → Some (cond b (record h { standing = freed_standing h.generation }) h) ≡ Some h
+    by true e = absurd (omega arith)
+    by false e = refl
+
+pub all_stay : (t : LimboRecord → Bool) (i : ℕ) (l : List (Option Share)) → count_freed t i l ≡ 0 → freed_from t i l ≡ l
+all_stay t i [] e = refl
+all_stay t i (x ∷ xs) e = λ k. one_stays t i x (omega arith) k ∷ all_stay t (i + 1) xs (omega arith) k
+
 -- A bag in two parts
 pub bag_parts : (t u : LimboRecord → Bool) (b : Book) → bag_count t b ≡ bag_count (λ x. u x && t x) b + bag_count (λ x. not (u x) && t x) b
 bag_parts t u b = let a = freed_sum t 0 b.mine in let c = freed_sum (λ x. u x && t x) 0 b.mine in let d = freed_sum (λ x. not (u x) && t x) 0 b.mine in

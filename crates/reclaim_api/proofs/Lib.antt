@@ -13,3 +13,4 @@ pub mod Reached
 pub mod Sifted
 pub mod Rows
 pub mod Words
+pub mod Scanning

@@ -8,3 +8,4 @@ pub mod Locals
 pub mod Owned
 pub mod Putting
 pub mod StepForms
+pub mod Scanning

@@ -1,5 +1,5 @@
 -- A load of the epoch that finds the last reading again, and one of an announcement, leave all records.
-use Rattle.std.proofs.Common.{◌≡◌, ℕ, ◌+◌, ◌*◌, ◌<◌, ◌≤◌, List, [], ◌∷◌, ◌++◌, append-nil, get_or, Bool, true, false, cond, eqb, Option, Some, None, sym, refl, ap, ◌∙◌, subst, arith, ⊎_elim}
+use Rattle.std.proofs.Common.{◌≡◌, ℕ, ◌+◌, ◌*◌, ◌<◌, ◌≤◌, List, [], ◌∷◌, ◌++◌, append-nil, get_or, Bool, true, false, cond, eqb, sym, refl, ap, ◌∙◌, subst, arith, ⊎_elim}
 use Rattle.std.specs.Prelude.{◌&&◌, not, nat_lt}
 use Rattle.std.proofs.lemmas.Bool.{eq-eqb, ne_eqb, ltb-true}
 use Rattle.record_memory.specs.declared.steps.Word.{Word}
@@ -8,17 +8,16 @@ use Rattle.record_memory.specs.declared.steps.Step.{Step}
 use Rattle.record_memory.specs.declared.books.Setup.{Setup}
 use Rattle.record_memory.specs.declared.books.View.{View}
 use Rattle.record_memory.specs.declared.books.Guard.{Guard}
-use Rattle.record_memory.specs.declared.books.Share.{Share}
 use Rattle.record_memory.specs.Memory.{word_at}
 use Rattle.row_words.specs.declared.links.Freed.{Freed}
 use Rattle.record_rule.specs.Facts.{LimboRecord}
 use Rattle.record_rule.specs.Kinds.{control_load}
 use Rattle.record_rule.specs.Links.{with_step}
-use Rattle.record_rule.specs.Freeing.{freed_standing, leaves_limbo, leaves_one, freed_of, freed_from, count_freed, guard_loaded, LoadedControl, LoadedBy}
+use Rattle.record_rule.specs.Freeing.{freed_from, count_freed, guard_loaded, LoadedControl, LoadedBy}
 use Rattle.reclaim_api.specs.Frames.{LeavesRecords}
 use Rattle.reclaim_api.specs.Bags.{bag_count}
 use Rattle.reclaim_api.specs.StepForms.{epoch_load, announcement_load}
-use Rattle.reclaim_api.proofs.Bagged.{fewer}
+use Rattle.reclaim_api.proofs.Bagged.{fewer, all_stay}
 use Rattle.guard_facts.specs.Announcing.{reading}
 use Rattle.debra_facts.specs.Rounds.{is_passed, one_passed, reads_anew}
 use Rattle.debra_facts.specs.Debra.{debra}
@@ -27,19 +26,6 @@ use Rattle.reclaim_debra.specs.LocalParts.{is_other, KeepsBags}
 use Rattle.reclaim_debra.specs.Running.{same, Looks, no_look, one_look}
 use Rattle.reclaim_debra.specs.Entering.{HasRead, HasLooked}
 use Rattle.reclaim_debra.specs.Stamped.{bags_stay}
-
--- Where none leaves limbo, all is known as before
-one_stays : (t : LimboRecord → Bool) (i : ℕ) (o : Option Share) → leaves_one t i o ≡ 0 → freed_of t i o ≡ o
-one_stays t i None e = refl
-one_stays t i (Some h) e = by (leaves_limbo t i h) e
-  where
-    by : (b : Bool) → ◌≡◌ {A = ℕ} (cond b 1 0) 0 → Some (cond b (record h { standing = freed_standing h.generation }) h) ≡ Some h
-    by true e = absurd (omega arith)
-    by false e = refl
-
-pub all_stay : (t : LimboRecord → Bool) (i : ℕ) (l : List (Option Share)) → count_freed t i l ≡ 0 → freed_from t i l ≡ l
-all_stay t i [] e = refl
-all_stay t i (x ∷ xs) e = λ k. one_stays t i x (omega arith) k ∷ all_stay t (i + 1) xs (omega arith) k
 
 -- no record of the three bags is below the third reading
 below_other : (n a b c : ℕ) → b < a → c ≤ b → nat_lt n c ≡ true → (not (eqb n a) && (not (eqb n b) && not (eqb n c))) ≡ true

@@ -1,7 +1,7 @@
 -- A store of the own announcement, and an exchange of the epoch, leave all records.
-use Rattle.std.proofs.Common.{◌≡◌, ◌≢◌, ℕ, ◌+◌, ◌*◌, ◌<◌, ◌%◌, [], ◌∷◌, ◌++◌, length, Bool, true, false, cond, eqb, sym, refl, ap, ◌∙◌, subst, arith, inl, inr}
-use Rattle.std.specs.Prelude.{◌⊎◌, MatchResult, Result, Ok, Err}
-use Rattle.std.proofs.lemmas.Bool.{eq-eqb, ne_eqb}
+use Rattle.std.proofs.Common.{◌≡◌, ℕ, ◌+◌, ◌*◌, ◌<◌, ◌%◌, [], ◌∷◌, length, Bool, true, false, sym, refl, ap, ◌∙◌, subst, arith, inl}
+use Rattle.std.specs.Prelude.{MatchResult, Result}
+use Rattle.std.proofs.lemmas.Bool.{ne_eqb}
 use Rattle.record_memory.specs.declared.steps.StepKind.TheVariants.{Exchange}
 use Rattle.record_memory.specs.declared.books.View.{View}
 use Rattle.record_rule.specs.Kinds.{control_step, made_step}
@@ -12,31 +12,23 @@ use Rattle.record_rule.specs.ControlSteps.{seeing_if, own_store, StoredWord}
 use Rattle.record_rule.specs.Links.{with_step, roots_kept}
 use Rattle.debra_facts.specs.Rounds.{starts_by, stored_as}
 use Rattle.debra_facts.specs.Debra.{debra}
+use Rattle.reclaim_api.proofs.Words.{epoch_tried}
 use Rattle.reclaim_debra.specs.declared.bags.Bags.{Bags}
 use Rattle.reclaim_debra.specs.LocalParts.{KeepsBags}
 use Rattle.reclaim_debra.specs.Stamped.{bags_stay}
 
--- The exchange, by what it found
-left_is : (e n : ℕ) (left : ℕ) → ((n ≡ e) × (left ≡ e + 1)) ⊎ ((n ≢ e) × (left ≡ n)) → left ≡ cond (eqb n e) (e + 1) n
-left_is e n left (inl p) = p.1 ∙ ap (λ (b : Bool). cond b (e + 1) n) (sym (eq-eqb n e p.0))
-left_is e n left (inr p) = p.1 ∙ ap (λ (b : Bool). cond b (e + 1) n) (sym (ne_eqb n e p.0))
-
-tried_by : (v w : View) (e n left : ℕ) → e < LAST_EPOCH → ((n ≡ e) × (left ≡ e + 1)) ⊎ ((n ≢ e) × (left ≡ n)) → w ≡ made_step v (control_step v Exchange 1 n left) → HasTried v e w
-tried_by v w e n left lt how is = record {
-  guard = ap (λ (x : View). x.own.guard) is;
-  tried = epoch_exchange v.own e n ∷ [];
-  try = inl (lt, (n, refl));
-  steps = ap (λ (x : View). x.own.steps) is ∙ ap (λ (k : ℕ). v.own.steps ++ record (control_step v Exchange 1 n left) { left = k } ∷ []) (left_is e n left how);
+-- The exchange is one step, which leaves the guard
+pub tried_once : (v w : View) (e : ℕ) (r : Result (Unit {0}) ℕ) → e < LAST_EPOCH → MatchResult r (λ _. w ≡ made_step v (control_step v Exchange 1 e (e + 1))) (λ found. (found ≡ e → ⊥) × (w ≡ made_step v (control_step v Exchange 1 found found))) → HasTried v e w
+tried_once v w e r lt told = let x = epoch_tried v w e r told in record {
+  guard = ap (λ (y : View). y.own.guard) x.1;
+  tried = epoch_exchange v.own e x.0 ∷ [];
+  try = inl (lt, (x.0, refl));
+  steps = ap (λ (y : View). y.own.steps) x.1;
 }
 
-pub tried_once : (v w : View) (e : ℕ) (r : Result (Unit {0}) ℕ) → e < LAST_EPOCH → MatchResult r (λ _. w ≡ made_step v (control_step v Exchange 1 e (e + 1))) (λ found. (found ≡ e → ⊥) × (w ≡ made_step v (control_step v Exchange 1 found found))) → HasTried v e w
-tried_once v w e (Ok u) lt told = tried_by v w e e (e + 1) lt (inl (refl, refl)) told
-tried_once v w e (Err n) lt told = tried_by v w e n n lt (inr (told.0, refl)) told.1
-
--- it is one step
+-- and the bags
 pub tried_bags : (l : Bags) (v w : View) (e : ℕ) (r : Result (Unit {0}) ℕ) → MatchResult r (λ _. w ≡ made_step v (control_step v Exchange 1 e (e + 1))) (λ found. (found ≡ e → ⊥) × (w ≡ made_step v (control_step v Exchange 1 found found))) → KeepsBags l v → KeepsBags l w
-tried_bags l v w e (Ok u) told k = subst (KeepsBags l) (sym told) (bags_stay l v (made_step v (control_step v Exchange 1 e (e + 1))) l.place refl (λ i h known q. known) (λ t. refl) refl k.place k)
-tried_bags l v w e (Err n) told k = subst (KeepsBags l) (sym told.1) (bags_stay l v (made_step v (control_step v Exchange 1 n n)) l.place refl (λ i h known q. known) (λ t. refl) refl k.place k)
+tried_bags l v w e r told k = let x = epoch_tried v w e r told in subst (KeepsBags l) (sym x.1) (bags_stay l v (made_step v (epoch_exchange v.own e x.0)) l.place refl (λ i h known q. known) (λ t. refl) refl k.place k)
 
 module _ (v w : View) (value found : ℕ) (told : StoredWord debra v 0 value found w) where
   -- the view that it leaves, whether or not it starts a guard

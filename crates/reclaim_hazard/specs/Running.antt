@@ -1,7 +1,5 @@
 -- The steps of the functions of hazard pointers: a try to hold names its target between two loads of the link, leaving clears the names, and retiring scans them once the bag is full.
 use Rattle.std.specs.Prelude.{◌≡◌, ◌≢◌, ℕ, ◌+◌, ◌-◌, ◌*◌, ◌<◌, ◌≤◌, List, [], ◌∷◌, ◌++◌, length, map, All, Bool, true, not, Option, Some, None, slice_index_or, slice_set}
-use Rattle.record_memory.specs.declared.steps.Word.TheVariants.{Announced}
-use Rattle.record_memory.specs.declared.steps.StepKind.TheVariants.{Load}
 use Rattle.record_memory.specs.declared.steps.Step.{Step}
 use Rattle.record_memory.specs.declared.books.Setup.{Setup}
 use Rattle.record_memory.specs.declared.books.Book.{Book}
@@ -21,6 +19,7 @@ use Rattle.reclaim_api.specs.Frames.{had}
 use Rattle.reclaim_api.specs.Bags.{count_spent}
 use Rattle.reclaim_api.specs.LinkLoads.{link_load}
 use Rattle.reclaim_api.specs.Putting.{IsHeadFor, bagged_share}
+use Rattle.reclaim_api.specs.Scanning.{word_loads, Waits}
 use Rattle.reclaim_api.specs.StepForms.{IsNoneFreed, word_store, stamp_store, chain_store}
 use Rattle.hazard_facts.specs.Pointers.{scan_word, is_named}
 
@@ -81,20 +80,13 @@ words_of setup = 3 * setup.callers
 
 -- the loads that found these values, from the word with this number in the order of a scan on, made while so many records were idle
 abbrev pub scan_loads : ℕ → ℕ → List ℕ → List Step
-scan_loads idle_then i [] = []
-scan_loads idle_then i (n ∷ ns) = record { kind = Load; word = Announced (scan_word i); held = None; found = n; left = n; idle = idle_then } ∷ scan_loads idle_then (i + 1) ns
+scan_loads idle_then i words = word_loads scan_word idle_then i words
 
 -- none of these words names the record
 abbrev pub is_unnamed : List ℕ → LimboRecord → Bool
 is_unnamed words n = not (is_named n.reference words)
 
--- Below twice as many records as words nothing is loaded and nothing freed
-pub record Waits (mine : List (Option Share)) (made : List Step) (f : Freed) (c : Book) : Type 0 where
-  pub none : made ≡ []
-  pub freed : IsNoneFreed f
-  pub mine_is : c.mine ≡ mine
-
--- Else all words are loaded once, in order, and exactly the records that none of them names leave limbo; the steps behind the loads are on the first words of rows
+-- All words are loaded once, in order, and exactly the records that none of them names leave limbo; the steps behind the loads are on the first words of rows
 pub record Scans (setup : Setup) (idle_then : ℕ) (mine : List (Option Share)) (made : List Step) (f : Freed) (c : Book) : Type 0 where
   pub words : List ℕ
   pub all : length words ≡ words_of setup
@@ -107,7 +99,7 @@ pub record Scans (setup : Setup) (idle_then : ℕ) (mine : List (Option Share)) 
   -- no more stay than there are words
   pub stay : had is_limbo c ≤ words_of setup
 
--- exactly where so many are in limbo, the record just retired among them
+-- exactly where twice as many records are in limbo as there are words, the record just retired among them
 pub data ScansIfFull (setup : Setup) (b : Book) (mine : List (Option Share)) (made : List Step) (f : Freed) (c : Book) : Type 0 where
   waits : had is_limbo b + 1 < 2 * words_of setup → Waits mine made f c → ScansIfFull setup b mine made f c
   scans : 2 * words_of setup ≤ had is_limbo b + 1 → Scans setup (idle b) mine made f c → ScansIfFull setup b mine made f c

@@ -20,7 +20,7 @@ use Rattle.reclaim_ibr.specs.declared.interval.Interval.{Interval}
 use Rattle.reclaim_ibr.specs.LocalParts.{IsLocal}
 use Rattle.reclaim_ibr.specs.LocalStays.{local_on}
 use Rattle.reclaim_ibr.specs.Running.{Enters}
-use Rattle.reclaim_ibr.specs.Steps.{epoch_read, HasReadEpoch, upper_stored, HasBegun}
+use Rattle.reclaim_ibr.specs.Steps.{epoch_read, HasRead, upper_stored, HasBegun}
 use Rattle.reclaim_ibr.proofs.Bearing.{same_idle}
 
 -- Where the same is known of each record, nothing left limbo
@@ -45,7 +45,7 @@ records_frees v w free f r freed spent = record {
 }
 
 -- `v` as it entered, `u` once the epoch was loaded, `x` once the upper end was stored, and `w` once the lower end was
-module _ (v u x w : View) (e upper : ℕ) (read : HasReadEpoch v e u) (raised : x ≡ upper_stored u e upper) (begun : HasBegun x e w) where
+module _ (v u x w : View) (e upper : ℕ) (read : HasRead v e u) (raised : x ≡ upper_stored u e upper) (begun : HasBegun x e w) where
   abbrev then : View
   then = upper_stored (epoch_read v e read.taken_out) e upper
 
@@ -78,7 +78,7 @@ module _ (v u x w : View) (e upper : ℕ) (read : HasReadEpoch v e u) (raised : 
     entered_steps k f freed spent = record {
       none = (freed, spent);
       epoch = e;
-      read = record { rise = read.least; limit = read.most; read = ap (λ (g : Guard). reading g 0) guard_is };
+      read = record { rise = read.rise; limit = read.limit; read = ap (λ (g : Guard). reading g 0) guard_is };
       ends = (lower_is, upper_is);
       upper = upper;
       lower = begun.lower;
@@ -95,9 +95,10 @@ module _ (v u x w : View) (e upper : ℕ) (read : HasReadEpoch v e u) (raised : 
     calm = ap (λ (g : Guard). g.loaded) guard_is ∙ h.calm;
     settled = ap (λ (g : Guard). g.pending) guard_is;
     upper = upper_is h.words;
-    first = let a = h.first in let b = read.least in let c = ap (λ (g : Guard). reading g 0) guard_is in omega arith;
-    limit = let a = read.most in let c = ap (λ (g : Guard). reading g 0) guard_is in omega arith;
+    first = let a = h.first in let b = read.rise in let c = ap (λ (g : Guard). reading g 0) guard_is in omega arith;
+    limit = let a = read.limit in let c = ap (λ (g : Guard). reading g 0) guard_is in omega arith;
   } record {
-    lower = let a = h.first in let b = read.least in let c = lower_is h.words in λ q. omega arith;
-    started = let a = ap (λ (g : Guard). g.start_step) guard_is in let b = ap (λ (y : View). length y.own.steps) then_is in let c = length-append (v.own.steps ++ epoch_load v.own e ∷ []) (word_store (epoch_read v e read.taken_out).own 1 e upper ∷ []) in let d = length-append v.own.steps (epoch_load v.own e ∷ []) in omega arith;
+    lower = let a = h.first in let b = read.rise in let c = lower_is h.words in λ q. omega arith;
+    started = let a = ap (λ (g : Guard). g.start_step) guard_is in let b = ap (λ (y : View). length y.own.steps) then_is in
+        let c = length-append (v.own.steps ++ epoch_load v.own e ∷ []) (word_store (epoch_read v e read.taken_out).own 1 e upper ∷ []) in let d = length-append v.own.steps (epoch_load v.own e ∷ []) in omega arith;
   } h

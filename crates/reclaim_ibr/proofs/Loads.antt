@@ -14,7 +14,7 @@ use Rattle.ibr_facts.specs.Keeping.{ibr, ibr_read, is_met, is_scanned}
 use Rattle.reclaim_api.proofs.Bagged.{bag_none}
 use Rattle.reclaim_api.proofs.Leaving.{stays_one}
 use Rattle.reclaim_api.specs.StepForms.{epoch_load, epoch_exchange}
-use Rattle.reclaim_ibr.specs.Steps.{HasLoadedEpoch, HasReadEpoch}
+use Rattle.reclaim_ibr.specs.Steps.{HasLoadedEpoch, HasRead}
 use Rattle.reclaim_ibr.proofs.Confirmed.{confirmed_rest, read_calm}
 
 -- where no record passes, all stay
@@ -48,8 +48,8 @@ module _ (v w : View) (e : ℕ) (told : LoadedControl ibr v 1 e w) (calm : v.own
         guard = ap (λ (b : Bool). cond b (record now { loaded = [] }) now) unscanned k;
       };
     });
-    least = told.shows.0;
-    most = told.shows.1;
+    rise = told.shows.0;
+    limit = told.shows.1;
     behind = λ i h known is. let a = told.behind i h known is in let b = told.taken_out_is in omega arith;
   }
     where
@@ -57,12 +57,12 @@ module _ (v w : View) (e : ℕ) (told : LoadedControl ibr v 1 e w) (calm : v.own
       freed = let n = bag_none may v.own none in omega arith
 
 -- where nothing waits
-pub epoch_is_read : (v w : View) (e : ℕ) → v.own.guard.pending ≡ None → HasLoadedEpoch v e w → HasReadEpoch v e w
+pub epoch_is_read : (v w : View) (e : ℕ) → v.own.guard.pending ≡ None → HasLoadedEpoch v e w → HasRead v e w
 epoch_is_read v w e none h = record {
   taken_out = h.taken_out;
   view = h.view ∙ ap (λ (g : Guard). record v { own = record (with_step v.own v.setup.records (epoch_load v.own e)) { guard = g } }) (read_calm v.own.guard e h.taken_out none);
-  least = h.least;
-  most = h.most;
+  rise = h.rise;
+  limit = h.limit;
   behind = h.behind;
 }
 

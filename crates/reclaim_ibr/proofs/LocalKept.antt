@@ -1,7 +1,6 @@
 -- What keeps a local part its caller's own: the guard's ends, start and holds, and the bag with all records in limbo.
-use Rattle.std.proofs.Common.{◌≡◌, ◌%◌, ◌<◌, ◌≤◌, ℕ, List, length, get_or, Bool, true, false, sym, ap, ◌∙◌, subst, arith}
+use Rattle.std.proofs.Common.{◌≡◌, ◌%◌, ◌≤◌, ℕ, List, length, get_or, Bool, sym, ap, ◌∙◌, subst, arith}
 use Rattle.record_memory.specs.declared.books.Guard.{Guard}
-use Rattle.record_memory.specs.declared.books.Setup.{Setup}
 use Rattle.record_memory.specs.declared.books.View.{View}
 use Rattle.record_memory.specs.declared.books.Standing.TheVariants.{Limbo}
 use Rattle.row_words.specs.declared.links.Chain.{Chain}
@@ -10,7 +9,8 @@ use Rattle.guard_facts.specs.Announcing.{LAST_EPOCH, reading}
 use Rattle.reclaim_api.specs.Chained.{IsChainOf}
 use Rattle.reclaim_api.specs.Frames.{had}
 use Rattle.reclaim_ibr.specs.declared.interval.Interval.{Interval}
-use Rattle.reclaim_ibr.specs.LocalParts.{EACH, IsGuarded, IsLocal}
+use Rattle.reclaim_ibr.specs.LocalParts.{EACH, IsLocal}
+use Rattle.reclaim_ibr.specs.LocalStays.{local_fits, guarded_by}
 
 -- the guard has the same interval and start, no scan is on, and nothing waits; its last reading is an epoch
 pub record IsCalm (g h : Guard) : Type 0 where
@@ -31,32 +31,16 @@ calm_same l inside s v h is e = record {
   limit = let a = ap (λ (x : Guard). reading x 0) e in let b = is.limit in omega arith;
 }
 
-guarded_calm : (inside : Bool) (s v w : View) → IsCalm v.own.guard w.own.guard → IsGuarded inside s v → IsGuarded inside s w
-guarded_calm true s v w calm h = record {
-  lower = λ e. h.lower (ap (λ (l : List ℕ). get_or l 0 0) (sym calm.announced) ∙ e);
-  started = subst (λ (n : ℕ). length s.own.steps < n) (sym calm.start) h.started;
-}
-guarded_calm false s v w calm h = ap (λ (l : List ℕ). get_or l 0 0) calm.announced ∙ h
-
 pub local_by : (l : Interval) (after : Chain) (retired : ℕ) (inside : Bool) (s v w : View) → IsLocal l inside s v → w.setup ≡ v.setup → w.own.caller ≡ v.own.caller → IsCalm v.own.guard w.own.guard → w.own.moves.births ≡ v.own.moves.births
     → retired ≡ w.own.moves.retired % EACH → IsChainOf Limbo w after → after.count ≡ had is_limbo w.own → IsLocal (record l { retired = retired; bag = after }) inside s w
-local_by l after retired inside s v w h setup caller calm births many bag whole = record {
-  caller = caller ∙ h.caller;
-  callers = ap (λ (k : Setup). k.callers) setup ∙ h.callers;
-  counted = h.counted;
-  few = h.few;
+local_by l after retired inside s v w h setup caller calm births many bag whole = local_fits l l.upper retired after inside inside s s v w setup caller births record {
   words = ap (λ (x : List ℕ). length x) calm.announced ∙ h.words;
   calm = calm.loaded ∙ h.calm;
   settled = calm.pending ∙ h.settled;
   upper = ap (λ (x : List ℕ). get_or x 1 0) calm.announced ∙ h.upper;
   first = let a = calm.rise in let b = h.first in omega arith;
   limit = calm.limit;
-  births = h.births ∙ ap (λ (n : ℕ). n % EACH) (sym births);
-  retired = many;
-  bag = bag;
-  whole = whole;
-  guarded = guarded_calm inside s v w calm h.guarded;
-}
+} (guarded_by inside s v w (ap (λ (x : List ℕ). get_or x 0 0) calm.announced) calm.start h.guarded) many bag whole h
 
 -- the same for a pass whose guard began when this one's did
 pub local_since : (l : Interval) (i i' : Bool) (s s' v : View) → i' ≡ i → s' ≡ s → IsLocal l i s v → IsLocal l i' s' v

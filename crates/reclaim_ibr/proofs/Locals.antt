@@ -12,16 +12,16 @@ use Rattle.reclaim_api.proofs.Kept.{chain_stays}
 use Rattle.reclaim_ibr.specs.declared.interval.Interval.{Interval}
 use Rattle.reclaim_ibr.specs.LocalParts.{EACH, IsLocal}
 use Rattle.reclaim_ibr.specs.LocalStays.{local_settled, local_on, guarded_by}
-use Rattle.reclaim_ibr.specs.Steps.{epoch_read, HasReadEpoch, lower_cleared}
+use Rattle.reclaim_ibr.specs.Steps.{epoch_read, HasRead, lower_cleared}
 
 -- a pass is inside as before, and its guard began when it did
 pub local_pass : {S R : Type 0} (l : Interval) (p q : Pass S R) → IsSamePass p q → IsLocal l (is_inside p) (since p) (view q) → IsLocalOf IsLocal l q
 local_pass l p q same h = subst (λ (x : Bool × View). IsLocal l x.0 x.1 (view q)) (λ k. (sym (ap (λ x. x.value) same.inside) k, sym (ap (λ x. x.value.me.0) same.since) k)) h
 
 -- the epoch was loaded
-pub local_read : (l : Interval) (i : Bool) (s v w : View) (e : ℕ) → HasReadEpoch v e w → IsLocal l i s v → IsLocal l i s w
+pub local_read : (l : Interval) (i : Bool) (s v w : View) (e : ℕ) → HasRead v e w → IsLocal l i s v → IsLocal l i s w
 local_read l i s v w e read h = let u : View = epoch_read v e read.taken_out in subst (IsLocal l i s) (sym read.view)
-    (local_on l l.upper i i s s v u refl refl refl refl record { words = h.words; calm = h.calm; settled = h.settled; upper = h.upper; first = (let a = h.first in let b = read.least in omega arith); limit = read.most } (guarded_by i s v u refl refl h.guarded) h)
+    (local_on l l.upper i i s s v u refl refl refl refl record { words = h.words; calm = h.calm; settled = h.settled; upper = h.upper; first = (let a = h.first in let b = read.rise in omega arith); limit = read.limit } (guarded_by i s v u refl refl h.guarded) h)
 
 -- a step of which nothing else is known
 pub local_made : (l : Interval) (i : Bool) (s v w : View) (t : Step) → w ≡ made_step v t → IsLocal l i s v → IsLocal l i s w

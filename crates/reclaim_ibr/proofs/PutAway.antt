@@ -1,7 +1,6 @@
 -- What retiring leaves: with the epoch loaded and the record in the bag, and with the bag scanned.
 use Rattle.std.proofs.Common.{◌≡◌, ◌≢◌, ℕ, ◌+◌, ◌-◌, ◌%◌, ◌≤◌, List, [], ◌∷◌, ◌++◌, set, set-set, get_or, get_or-set_same, append-nil, append_assoc, Option, Some, None, sym, refl, ap, ◌∙◌, subst, arith}
 use Rattle.record_memory.specs.declared.books.Book.{Book}
-use Rattle.record_memory.specs.declared.books.Drawing.{Drawing}
 use Rattle.record_memory.specs.declared.books.Guard.{Guard}
 use Rattle.record_memory.specs.declared.books.Moves.{Moves}
 use Rattle.record_memory.specs.declared.books.Setup.{Setup}
@@ -24,7 +23,8 @@ use Rattle.reclaim_api.proofs.Kept.{retired_leaves, retired_idle, retired_limbo,
 use Rattle.reclaim_api.proofs.Stills.{still_guard, still_moves, still_rest, still_idle, still_had, still_left}
 use Rattle.reclaim_ibr.specs.LocalParts.{EACH}
 use Rattle.reclaim_ibr.specs.Retiring.{IsHeadFor, Scans, ScansIfDue, waits, scans, bagged_share, PutsAway}
-use Rattle.reclaim_ibr.specs.Scans.{read_epoch, HasRead, HasKept}
+use Rattle.reclaim_ibr.specs.Steps.{epoch_read, HasRead}
+use Rattle.reclaim_ibr.specs.Scans.{HasKept}
 
 -- a record in limbo is so for each book that knows the same of the records
 head_same : (b c : Book) (next : Option RefParts) → c.mine ≡ b.mine → IsHeadFor b next → IsHeadFor c next
@@ -35,15 +35,15 @@ joined : (a b c d e : List Step) → (((a ++ b) ++ c) ++ d) ++ e ≡ a ++ (b ++ 
 joined a b c d e = simp append_assoc
 
 -- the record in the bag, of what was known once the epoch was loaded
-pub kept_after : (v t u : View) (r : RefParts) (e : ℕ) (read : HasRead v e t) → HasKept t r e u → HasKept (read_epoch v e read.taken_out read.drawing) r e u
+pub kept_after : (v t u : View) (r : RefParts) (e : ℕ) (read : HasRead v e t) → HasKept t r e u → HasKept (epoch_read v e read.taken_out) r e u
 kept_after v t u r e read kept = subst (λ (x : View). HasKept x r e u) read.view kept
 
-module _ (v u : View) (r : RefParts) (e taken_out : ℕ) (drawing : Drawing) (kept : HasKept (read_epoch v e taken_out drawing) r e u) where
+module _ (v u : View) (r : RefParts) (e taken_out : ℕ) (kept : HasKept (epoch_read v e taken_out) r e u) where
   abbrev value : ℕ
   value = packed_number r.generation e
 
   abbrev read : View
-  read = read_epoch v e taken_out drawing
+  read = epoch_read v e taken_out
 
   abbrev then : View
   then = retired read r kept.share e

@@ -1,5 +1,5 @@
 -- The ends of a scan are loaded one after another: a load before the last one leaves all records, and with the last one those that no interval meets leave limbo.
-use Rattle.std.proofs.Common.{◌≡◌, ℕ, ◌+◌, ◌*◌, ◌<◌, List, [], ◌∷◌, ◌++◌, length, length-append, append-nil, append_assoc, Bool, true, false, cond, not, Option, Some, None, sym, refl, ap, ◌∙◌, subst, arith}
+use Rattle.std.proofs.Common.{◌≡◌, ℕ, ◌+◌, ◌*◌, ◌<◌, List, [], ◌∷◌, ◌++◌, length, length-append, append-nil, append_assoc, Bool, true, false, cond, not, None, sym, refl, ap, ◌∙◌, subst, arith}
 use Rattle.std.proofs.lemmas.Bool.{eq-eqb, ne_eqb}
 use Rattle.record_memory.specs.declared.steps.Word.{Word}
 use Rattle.record_memory.specs.declared.steps.Word.TheVariants.{Announced}
@@ -7,27 +7,21 @@ use Rattle.record_memory.specs.declared.steps.StepKind.TheVariants.{Load}
 use Rattle.record_memory.specs.declared.steps.Step.{Step}
 use Rattle.record_memory.specs.declared.books.Guard.{Guard}
 use Rattle.record_memory.specs.declared.books.View.{View}
-use Rattle.record_memory.specs.declared.books.Share.{Share}
 use Rattle.record_memory.specs.declared.books.Drawing.{Drawing}
 use Rattle.record_memory.specs.Memory.{word_at}
 use Rattle.record_rule.specs.Facts.{LimboRecord}
 use Rattle.record_rule.specs.Kinds.{idle, control_load}
 use Rattle.record_rule.specs.Links.{with_step}
-use Rattle.record_rule.specs.Freeing.{limbo_share, freed_from, count_freed, guard_loaded, LoadedControl}
+use Rattle.record_rule.specs.Freeing.{freed_from, count_freed, guard_loaded, LoadedControl}
 use Rattle.ibr_facts.specs.Keeping.{ibr, ibr_loaded, ibr_free, ibr_cleared, is_scanned, is_met}
 use Rattle.reclaim_api.specs.Bags.{LeftLimbo}
 use Rattle.reclaim_api.proofs.Bagged.{bag_none}
-use Rattle.reclaim_api.proofs.Leaving.{stays_one, left_limbo}
+use Rattle.reclaim_api.proofs.Leaving.{left_limbo}
 use Rattle.reclaim_ibr.specs.Meeting.{is_unmet}
 use Rattle.reclaim_ibr.specs.Retiring.{scan_word, scan_loads}
 use Rattle.reclaim_ibr.specs.Scans.{loaded_ends, HasLoadedEnds, HasScanned}
 use Rattle.reclaim_ibr.proofs.Words.{announced_at}
-
--- where no record passes, all stay
-pub none_free : (may : LimboRecord → Bool) → ((x : LimboRecord) → may x ≡ false) → (i : ℕ) (l : List (Option Share)) → freed_from may i l ≡ l
-none_free may fails i [] = refl
-none_free may fails i (None ∷ xs) = λ k. None ∷ none_free may fails (i + 1) xs k
-none_free may fails i (Some h ∷ xs) = λ k. stays_one may i h (fails (limbo_share i h)) k ∷ none_free may fails (i + 1) xs k
+use Rattle.reclaim_ibr.proofs.Loads.{none_free}
 
 -- one load more
 loads_more : (m i j n : ℕ) (ends : List ℕ) → j ≡ i + length ends → scan_loads m i ends ++ record { kind = Load; word = Announced (scan_word j); held = None; found = n; left = n; idle = m } ∷ [] ≡ scan_loads m i (ends ++ n ∷ [])

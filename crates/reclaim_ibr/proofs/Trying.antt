@@ -66,13 +66,13 @@ module _ (s : ShapeFacts) {S R : Type 0} (p then : Pass S R) (o : Origin) (place
 
     -- the epoch is no less than the last reading
     least : reading (view p).own.guard 0 ≤ e
-    least = let a = h.least in let b = ap (λ (v : View). reading v.own.guard 0) told.view in omega arith
+    least = let a = h.rise in let b = ap (λ (v : View). reading v.own.guard 0) told.view in omega arith
 
     reads : reading (view q).own.guard 0 ≡ e
     reads = ap (λ (g : Guard). reading g 0) read_is
 
     pub is_read : IsRead (view p).own e (view q).own
-    is_read = record { rise = least; limit = h.most; read = reads }
+    is_read = record { rise = least; limit = h.limit; read = reads }
 
     pub upper_raised : (x : View) (found : ℕ) → x ≡ upper_stored (view q) e found → length (view p).own.guard.announced ≡ 4 → word_of x.own.guard 1 ≡ e
     upper_raised x found is four = let words : length (view q).own.guard.announced ≡ 4 = ap (λ (g : Guard). length g.announced) read_is ∙ four in ap (λ (y : View). word_of y.own.guard 1) is ∙ get_or-set_same (view q).own.guard.announced 1 e 0 (omega arith)
@@ -85,7 +85,7 @@ module _ (s : ShapeFacts) {S R : Type 0} (p then : Pass S R) (o : Origin) (place
           settled = confirmed found;
           upper = ap (λ (g : Guard). word_of g 1) read_is ∙ k.upper;
           first = let a = k.first in let b = least in let c = reads in omega arith;
-          limit = let a = h.most in let c = reads in omega arith;
+          limit = let a = h.limit in let c = reads in omega arith;
         } (guarded_by i t (view p) (view q) (ap (λ (g : Guard). word_of g 0) read_is) (ap (λ (g : Guard). g.start_step) read_is) k.guarded) k
 
     -- or another one, which is stored as the upper end
@@ -98,7 +98,7 @@ module _ (s : ShapeFacts) {S R : Type 0} (p then : Pass S R) (o : Origin) (place
           settled = refl;
           upper = get_or-set_same (view q).own.guard.announced 1 e 0 (omega arith);
           first = let a = k.first in let b = least in let c = reads in omega arith;
-          limit = let a = h.most in let c = reads in omega arith;
+          limit = let a = h.limit in let c = reads in omega arith;
         } (guarded_by i t (view p) u (get_or-set_other (view q).own.guard.announced 1 0 e 0 (λ z. omega arith) ∙ ap (λ (g : Guard). word_of g 0) read_is) (ap (λ (g : Guard). g.start_step) read_is) k.guarded) k)
 
 -- The steps: the link, the epoch, and the upper end where that isn't the epoch

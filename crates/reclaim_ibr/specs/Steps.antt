@@ -19,8 +19,8 @@ pub record HasLoadedEpoch (v : View) (e : ℕ) (w : View) : Type 0 where
   pub taken_out : ℕ
   pub view : w ≡ epoch_loaded v e taken_out
   -- the epoch never falls
-  pub least : reading v.own.guard 0 ≤ e
-  pub most : e ≤ LAST_EPOCH
+  pub rise : reading v.own.guard 0 ≤ e
+  pub limit : e ≤ LAST_EPOCH
   -- each record that its caller took out and hasn't retired was taken out before
   pub behind : (i : ℕ) (h : Share) → share_in v i ≡ Some h → h.standing ≡ TakenOut → h.taken_number < taken_out
 
@@ -28,11 +28,11 @@ pub record HasLoadedEpoch (v : View) (e : ℕ) (w : View) : Type 0 where
 abbrev pub epoch_read : View → ℕ → ℕ → View
 epoch_read v e taken = record v { own = record (with_step v.own v.setup.records (epoch_load v.own e)) { guard = record v.own.guard { readings = e ∷ []; reading_taken_out = taken } } }
 
-pub record HasReadEpoch (v : View) (e : ℕ) (w : View) : Type 0 where
+pub record HasRead (v : View) (e : ℕ) (w : View) : Type 0 where
   pub taken_out : ℕ
   pub view : w ≡ epoch_read v e taken_out
-  pub least : reading v.own.guard 0 ≤ e
-  pub most : e ≤ LAST_EPOCH
+  pub rise : reading v.own.guard 0 ≤ e
+  pub limit : e ≤ LAST_EPOCH
   pub behind : (i : ℕ) (h : Share) → share_in v i ≡ Some h → h.standing ≡ TakenOut → h.taken_number < taken_out
 
 -- after a store of the upper end: nothing waits

@@ -21,6 +21,7 @@ use row_words::{Chain, Freed};
 
 // The words of the two ends.
 const LOWER: u32 = 0;
+
 const UPPER: u32 = 1;
 
 // Nothing left limbo.

@@ -14,8 +14,8 @@ use limbo_bags::sift;
 use record_table::{Pass, Rows, Shape, Table};
 use row_words::{Chain, Freed};
 
-// Puts the records of the bag that none of the intervals meets in front of the free ones, but for those that are spent. The
-// others stay in the bag.
+// Puts the records of the bag that none of the intervals meets in front of the free ones, but for those that are spent.
+// The others stay in the bag.
 pub(crate) fn sift_bag<S: Shape>(
     table: &Table<S, Ibr>,
     pass: &mut Pass<S, Ibr>,

@@ -5,7 +5,7 @@ ghost use Rattle.reclaim_api.specs.Frames.{LeavesRecords};
 ghost use Rattle.reclaim_api.specs.Locals.{IsLocalOf};
 ghost use Rattle.reclaim_api.specs.Holds.{KeepsHeld};
 ghost use Rattle.reclaim_ibr.specs.LocalParts.{IsLocal};
-ghost use Rattle.reclaim_ibr.specs.Steps.{HasLoadedEpoch, HasReadEpoch};
+ghost use Rattle.reclaim_ibr.specs.Steps.{HasLoadedEpoch, HasRead};
 
 use crate::{Ibr, Interval};
 use record_memory::EPOCH;
@@ -33,7 +33,7 @@ pub(crate) fn read_epoch<S: Shape>(
     ensures local { IsLocalOf IsLocal local.now pass.new }
     ensures rest { LeavesRecords (view pass.old) (view pass.new) }
     ensures keeps { KeepsHeld pass.old pass.new }
-    ensures read { HasReadEpoch (view pass.old) result (view pass.new) }
+    ensures read { HasRead (view pass.old) result (view pass.new) }
 {
     load_epoch(table, pass)
 }

@@ -1,12 +1,12 @@
-//! 2GEIBR, interval-based reclamation: a caller announces an interval of epochs, and a record leaves limbo once its life
-//! meets no announced interval.
+//! 2GEIBR, interval-based reclamation: a caller announces an interval of epochs, and a record leaves limbo once its
+//! life meets no announced interval.
 //!
-//! A record is born at the epoch of the moment before it is handed out, and is stamped with the epoch when it is retired;
-//! the epoch is tried at each sixteenth birth. A caller that enters announces the interval from the present epoch to the
-//! present epoch. A try to hold loads the link and then the epoch: the target is held where the epoch is still the upper
-//! end, and else the upper end is raised to it and the caller tries again. At each sixteenth retirement a caller loads
-//! both ends of every caller, and frees what it retired but for the records whose life meets one of these intervals.
-//! After Wen, Izraelevitz, Cai, Beadle and Scott, "Interval-based memory reclamation" (PPoPP 2018).
+//! A record is born at the epoch of the moment before it is handed out, and is stamped with the epoch when it is
+//! retired; the epoch is tried at each sixteenth birth. A caller that enters announces the interval from the present
+//! epoch to the present epoch. A try to hold loads the link and then the epoch: the target is held where the epoch is
+//! still the upper end, and else the upper end is raised to it and the caller tries again. At each sixteenth retirement
+//! a caller loads both ends of every caller, and frees what it retired but for the records whose life meets one of
+//! these intervals. After Wen, Izraelevitz, Cai, Beadle and Scott, "Interval-based memory reclamation" (PPoPP 2018).
 #![tactic(auto)]
 
 mod announcing;

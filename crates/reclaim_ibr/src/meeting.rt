@@ -5,15 +5,15 @@ ghost use Rattle.ibr_facts.specs.Keeping.{is_met};
 use limbo_bags::Keeps;
 use row_words::Ref;
 
-// Whether the interval with these ends meets the life from `birth` to `stamp`. A lower end of 0 is that of a quiet caller.
+// Whether the interval with these ends meets the life from `birth` to `stamp`. A lower end of 0 is a quiet caller's.
 fn meets_one(lower: u64, upper: u64, birth: u64, stamp: u64) -> bool
     ensures { IsTrue result ↔ ((lower ≢ 0) × (lower ≤ stamp) × (birth ≤ upper)) }
 {
     lower != 0 && lower <= stamp && birth <= upper
 }
 
-// Whether one of the intervals, of which each has its lower end and then its upper end here, meets the life from `birth` to
-// `stamp`. Where an upper end is missing, the answer is yes.
+// Whether one of the intervals, of which each has its lower end and then its upper end here, meets the life from
+// `birth` to `stamp`. Where an upper end is missing, the answer is yes.
 fn meets(ends: &[u64], birth: u64, stamp: u64) -> bool
     ensures { result ≡ is_met ends.now birth stamp }
 {

@@ -1,4 +1,4 @@
-// Retiring: the epoch is the stamp, the record comes into the bag, and at each sixteenth one the bag is sifted by all intervals.
+// Retiring: the epoch is the stamp, the record comes into the bag, and each sixteenth one sifts it by all intervals.
 ghost use Rattle.std.specs.Prelude.{◌≡◌, ◌+◌, ◌*◌, ◌<◌, ◌/◌, ◌%◌, ◌^◌, ◌++◌, [], ℕ, List};
 ghost use Rattle.arrayvec.specs.ArrayVec.{array_vec_len};
 ghost use Rattle.record_memory.specs.declared.steps.Step.{Step};
@@ -17,13 +17,14 @@ ghost use Rattle.reclaim_api.specs.Locals.{IsLocalOf};
 ghost use Rattle.reclaim_api.specs.Holds.{KeepsHeld};
 ghost use Rattle.reclaim_ibr.specs.LocalParts.{IsLocal};
 ghost use Rattle.reclaim_ibr.specs.Retiring.{scan_word, Scans, PutsAway};
-ghost use Rattle.reclaim_ibr.specs.Scans.{HasRead, HasKept, HasLoadedEnds, HasScanned};
+ghost use Rattle.reclaim_ibr.specs.Scans.{HasKept, HasLoadedEnds, HasScanned};
 
 use crate::chains::sift_bag;
+use crate::epochs::read_epoch;
 use crate::{Ibr, Interval};
 use arrayvec::ArrayVec;
 use reclaim_api::put_first;
-use record_memory::{EPOCH, announcement};
+use record_memory::announcement;
 use record_table::{Pass, Shape, Table, TakenOut};
 use row_words::{Chain, Freed};
 
@@ -32,18 +33,6 @@ const EACH: u8 = 16;
 
 // Nothing left limbo.
 const NONE_FREED: Freed = Freed { freed: 0, spent: 0 };
-
-// Loads the epoch, which is the caller's last reading then.
-fn load_epoch<S: Shape>(table: &Table<S, Ibr>, pass: &mut Pass<S, Ibr>, local: &Interval) -> u64
-    requires pass { IsPassOf table.now pass.old }
-    requires local { IsLocalOf IsLocal local.now pass.old }
-    ensures pass { IsSamePass pass.old pass.new }
-    ensures local { IsLocalOf IsLocal local.now pass.new }
-    ensures read { HasRead (view pass.old) result (view pass.new) }
-{
-    let _caller = local.caller;
-    table.load_control(pass, EPOCH)
-}
 
 // Retires a record with the last reading as its stamp: it comes in front of the bag, and is counted.
 fn keep<S: Shape>(
@@ -142,8 +131,8 @@ fn scan<S: Shape>(
     sift_bag(table, pass, &mut local.bag, ends.as_slice(), free)
 }
 
-// Retires a record that the caller took out: it is stamped with the epoch and comes into the bag, and where it is a sixteenth
-// one, the records leave limbo whose life meets no interval.
+// Retires a record that the caller took out: it is stamped with the epoch and comes into the bag, and where it is a
+// sixteenth one, the records leave limbo whose life meets no interval.
 pub(crate) fn put_away<S: Shape>(
     table: &Table<S, Ibr>,
     pass: &mut Pass<S, Ibr>,
@@ -165,7 +154,7 @@ pub(crate) fn put_away<S: Shape>(
     ensures keeps { KeepsHeld pass.old pass.new }
     ensures does { PutsAway (setup_of table.now) (view pass.old).own taken result (view pass.new).own }
 {
-    let epoch = load_epoch(table, pass, local);
+    let epoch = read_epoch(table, pass, local);
     keep(table, pass, local, taken, epoch);
     if local.retired != 0 {
         return NONE_FREED;

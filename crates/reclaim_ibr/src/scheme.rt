@@ -1,4 +1,5 @@
-// The functions of 2GEIBR: each operation announces an interval of epochs, which a try to hold compares with the epoch, and each sixteenth retirement scans all intervals.
+// The functions of 2GEIBR: an operation announces an interval of epochs, a try to hold compares the epoch with its upper
+// end, and each sixteenth retirement scans all intervals.
 ghost use Rattle.std.specs.Prelude.{refl};
 ghost use Rattle.ibr_facts.proofs.KeepingLaws.{ibr_laws};
 ghost use Rattle.reclaim_ibr.specs.LocalParts.{IsLocal};

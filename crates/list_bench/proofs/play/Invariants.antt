@@ -1,9 +1,5 @@
-use Rattle.record_table.specs.Handles.{IsPassOf}
-use Rattle.manager.specs.Callers.{IsResting}
+use Rattle.michael_hash.specs.Callers.{IsWholeCallerOf}
 use Rattle.list_bench.proofs.play.Given as goal
 
 abbrev pub invariant-loop-call : goal.invariant-loop-call
-invariant-loop-call l = record {
-  of : IsPassOf l.list.manager.table l.caller.pass;
-  caller : IsResting (λ l inside s v. Unit {0}) l.caller;
-}
+invariant-loop-call g l = record { caller : IsWholeCallerOf g.R.Scheme.is_local l.hash.lists.manager.table l.caller }

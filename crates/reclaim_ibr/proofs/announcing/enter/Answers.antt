@@ -4,19 +4,19 @@ use Rattle.record_table.specs.Handles.{view, since, is_inside, setup_of}
 use Rattle.reclaim_api.specs.Frames.{LeavesRecords}
 use Rattle.reclaim_ibr.specs.declared.interval.Interval.{Interval}
 use Rattle.reclaim_ibr.specs.LocalParts.{IsLocal}
-use Rattle.reclaim_ibr.specs.Steps.{HasLoadedEpoch, HasReadEpoch, HasBegun}
+use Rattle.reclaim_ibr.specs.Steps.{HasLoadedEpoch, HasRead, HasBegun}
 use Rattle.reclaim_ibr.proofs.Loads.{epoch_is_read}
 use Rattle.reclaim_ibr.proofs.Storing.{guard_begins}
 use Rattle.reclaim_ibr.proofs.Entering.{records_free, records_frees, entered_rest, entered_setup, entered_steps, entered_local}
 use Rattle.reclaim_ibr.proofs.announcing.enter.Goals as goal
 
 -- the epoch was loaded by a pass that knew as much as before
-read : (g : _) (c : goal.After-store_end g) → HasReadEpoch (view c.args.pass.now) c.load_epoch-epoch.result (view c.load_epoch-epoch.new.pass)
+read : (g : _) (c : goal.After-store_end g) → HasRead (view c.args.pass.now) c.load_epoch-epoch.result (view c.load_epoch-epoch.new.pass)
 read g c = let v : View = view c.args.pass.now in let u : View = view c.load_epoch-epoch.new.pass in
     epoch_is_read v u c.load_epoch-epoch.result c.requires.local.settled (subst (λ (y : View). HasLoadedEpoch y c.load_epoch-epoch.result u) (ap (λ x. x.me.0) c.begin_guard.ensures.seat.same_seat) c.load_epoch-epoch.ensures.loaded)
 
 begun : (g : _) (c : goal.After-store_end g) → HasBegun (view c.raise.new.pass) c.load_epoch-epoch.result (view c.store_end.new.pass)
-begun g c = let s = c.store_end.ensures.stored in guard_begins (view c.raise.new.pass) (view c.store_end.new.pass) c.load_epoch-epoch.result s.0 (let a = c.requires.local.first in let b = (read g c).least in omega arith) s.1
+begun g c = let s = c.store_end.ensures.stored in guard_begins (view c.raise.new.pass) (view c.store_end.new.pass) c.load_epoch-epoch.result s.0 (let a = c.requires.local.first in let b = (read g c).rise in omega arith) s.1
 
 rest : (g : _) (c : goal.After-store_end g) → LeavesRecords (view c.args.pass.now) (view c.store_end.new.pass)
 rest g c = let r = c.raise.ensures.stored in entered_rest (view c.args.pass.now) (view c.load_epoch-epoch.new.pass) (view c.raise.new.pass) (view c.store_end.new.pass) c.load_epoch-epoch.result r.0 (read g c) r.1 (begun g c)
@@ -37,4 +37,5 @@ pub returns-clause-frees : goal.returns-clause-frees
 returns-clause-frees g c = records_frees (view c.args.pass.now) (view c.store_end.new.pass) c.args.free.now _ (rest g c) refl refl
 
 pub returns-clause-does : goal.returns-clause-does
-returns-clause-does g c = let r = c.raise.ensures.stored in entered_steps (view c.args.pass.now) (view c.load_epoch-epoch.new.pass) (view c.raise.new.pass) (view c.store_end.new.pass) c.load_epoch-epoch.result r.0 (read g c) r.1 (begun g c) c.requires.local.words (setup_of c.args.table.now) _ refl refl
+returns-clause-does g c = let r = c.raise.ensures.stored in
+    entered_steps (view c.args.pass.now) (view c.load_epoch-epoch.new.pass) (view c.raise.new.pass) (view c.store_end.new.pass) c.load_epoch-epoch.result r.0 (read g c) r.1 (begun g c) c.requires.local.words (setup_of c.args.table.now) _ refl refl

@@ -13,7 +13,7 @@ returns-clause-local g c = let q = c.read_epoch-epoch.new.pass in local_born c.a
 
 pub returns-clause-does : goal.returns-clause-does
 returns-clause-does g c = let v : View = view c.args.pass.now in let w : View = view c.read_epoch-epoch.new.pass in let n = c.read_epoch-epoch.result in let read = c.read_epoch-epoch.ensures.read in let l = c.requires.local in elim c.if-births-eq0.branch [
-  then-births-eq0 x ↦ let a = x.advance.ensures.advanced in bears_by (setup_of c.args.table.now) v (view c.if-births-eq0.pass) w a.0 n (at_time (let y = x.if-births-eq0.true in let z = l.births in omega arith) a.1)
+  | then-births-eq0 x ↦ let a = x.advance.ensures.advanced in bears_by (setup_of c.args.table.now) v (view c.if-births-eq0.pass) w a.0 n (at_time (let y = x.if-births-eq0.true in let z = l.births in omega arith) a.1)
       (ap (λ (p : _). (view p).own.steps) x.pass-is ∙ a.2) (ap (λ (p : _). (view p).own.mine) x.pass-is ∙ x.advance.ensures.rest.mine) (let b = x.advance.ensures.rise in let d = ap (λ (p : _). reading (view p).own.guard 0) x.pass-is in omega arith) read
   | else-births-eq0 x ↦ bears_by (setup_of c.args.table.now) v (view c.if-births-eq0.pass) w [] n (between (λ e. (let y = x.if-births-eq0.false in let z = l.births in omega arith)) refl)
       (ap (λ (p : _). (view p).own.steps) x.pass-is ∙ sym (append-nil v.own.steps)) (ap (λ (p : _). (view p).own.mine) x.pass-is) (let d = ap (λ (p : _). reading (view p).own.guard 0) x.pass-is in omega arith) read

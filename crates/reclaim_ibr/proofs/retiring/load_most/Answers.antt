@@ -20,7 +20,8 @@ loop-n-init g c = record {
 pub loop-n-preserved : goal.loop-n-preserved
 loop-n-preserved g c = let i = c.loop-n.invariant in let v = view c.args.pass.now in let l = c.requires.local in let test = c.loop-n-test.true in
     let told : LoadedControl ibr (view c.loop-n.pass) (20 + scan_word c.loop-n.n) c.load_end.result (view c.load_end.new.pass) = c.load_end.ensures.loaded in
-    let at : LoadedControl ibr (loaded_ends v c.loop-n.ends.items i.loaded.drawing) (20 + scan_word (length c.loop-n.ends.items)) c.load_end.result (view c.load_end.new.pass) = subst (λ (x : View × ℕ). LoadedControl ibr x.0 (20 + scan_word x.1) c.load_end.result (view c.load_end.new.pass)) (λ k. (i.loaded.view k, sym i.many k)) told in record {
+    let at : LoadedControl ibr (loaded_ends v c.loop-n.ends.items i.loaded.drawing) (20 + scan_word (length c.loop-n.ends.items)) c.load_end.result (view c.load_end.new.pass) =
+    subst (λ (x : View × ℕ). LoadedControl ibr x.0 (20 + scan_word x.1) c.load_end.result (view c.load_end.new.pass)) (λ k. (i.loaded.view k, sym i.many k)) told in record {
       pass = pass_still c.args.table.now c.loop-n.pass c.load_end.new.pass i.pass c.load_end.ensures.pass;
       same = same_then c.args.pass.now c.loop-n.pass c.load_end.new.pass i.same c.load_end.ensures.pass;
       many = c.push.ensures.len ∙ ap (λ (n : ℕ). n + 1) i.many;

@@ -32,16 +32,20 @@ sifted g c = subst (λ (ends : List ℕ). HasSifted (meets ends) (view c.load_al
 
 pub returns-clause-local : goal.returns-clause-local
 returns-clause-local g c = let u = c.load_all.ensures in scanned_local c.load_all.new.ends.items (view c.args.pass.now) (view c.load_all.new.pass) u.ends c.args.local.now (is_inside c.args.pass.now) (since c.args.pass.now) c.requires.local c.args.free.now c.requires.free
-    (view c.sift_bag.new.pass) c.sift_bag.new.bag c.sift_bag.new.free c.sift_bag.result _ (sifted g c) (is_inside c.sift_bag.new.pass) (since c.sift_bag.new.pass) u.pass.caller (ap (λ x. x.value) (c.sift_bag.ensures.pass.inside ∙ u.pass.inside)) (ap (λ x. x.value.me.0) (c.sift_bag.ensures.pass.since ∙ u.pass.since))
+    (view c.sift_bag.new.pass) c.sift_bag.new.bag c.sift_bag.new.free c.sift_bag.result _ (sifted g c) (is_inside c.sift_bag.new.pass) (since c.sift_bag.new.pass) u.pass.caller
+    (ap (λ x. x.value) (c.sift_bag.ensures.pass.inside ∙ u.pass.inside)) (ap (λ x. x.value.me.0) (c.sift_bag.ensures.pass.since ∙ u.pass.since))
 
 pub returns-clause-free : goal.returns-clause-free
-returns-clause-free g c = let l = c.requires.local in sifted_free (meets c.load_all.new.ends.items) (view c.args.pass.now) (view c.load_all.new.pass) c.load_all.ensures.ends.left c.args.local.now.bag c.args.free.now l.bag l.whole c.requires.free (view c.sift_bag.new.pass) c.sift_bag.new.bag c.sift_bag.new.free c.sift_bag.result _ (sifted g c)
+returns-clause-free g c = let l = c.requires.local in
+    sifted_free (meets c.load_all.new.ends.items) (view c.args.pass.now) (view c.load_all.new.pass) c.load_all.ensures.ends.left c.args.local.now.bag c.args.free.now l.bag l.whole c.requires.free (view c.sift_bag.new.pass) c.sift_bag.new.bag c.sift_bag.new.free c.sift_bag.result _ (sifted g c)
 
 pub returns-clause-frees : goal.returns-clause-frees
-returns-clause-frees g c = let l = c.requires.local in sifted_frees (meets c.load_all.new.ends.items) (view c.args.pass.now) (view c.load_all.new.pass) c.load_all.ensures.ends.left c.args.local.now.bag c.args.free.now l.bag l.whole c.requires.free (view c.sift_bag.new.pass) c.sift_bag.new.bag c.sift_bag.new.free c.sift_bag.result _ (sifted g c)
+returns-clause-frees g c = let l = c.requires.local in
+    sifted_frees (meets c.load_all.new.ends.items) (view c.args.pass.now) (view c.load_all.new.pass) c.load_all.ensures.ends.left c.args.local.now.bag c.args.free.now l.bag l.whole c.requires.free (view c.sift_bag.new.pass) c.sift_bag.new.bag c.sift_bag.new.free c.sift_bag.result _ (sifted g c)
 
 pub returns-clause-rest : goal.returns-clause-rest
-returns-clause-rest g c = let l = c.requires.local in sifted_rest (meets c.load_all.new.ends.items) (view c.args.pass.now) (view c.load_all.new.pass) c.load_all.ensures.ends.left c.args.local.now.bag c.args.free.now l.bag l.whole c.requires.free (view c.sift_bag.new.pass) c.sift_bag.new.bag c.sift_bag.new.free c.sift_bag.result _ (sifted g c)
+returns-clause-rest g c = let l = c.requires.local in
+    sifted_rest (meets c.load_all.new.ends.items) (view c.args.pass.now) (view c.load_all.new.pass) c.load_all.ensures.ends.left c.args.local.now.bag c.args.free.now l.bag l.whole c.requires.free (view c.sift_bag.new.pass) c.sift_bag.new.bag c.sift_bag.new.free c.sift_bag.result _ (sifted g c)
 
 pub returns-clause-scanned : goal.returns-clause-scanned
 returns-clause-scanned g c = has_scanned c.load_all.new.ends.items (view c.args.pass.now) (view c.load_all.new.pass) c.load_all.ensures.ends c.args.local.now (is_inside c.args.pass.now) (since c.args.pass.now) c.requires.local c.args.free.now c.requires.free

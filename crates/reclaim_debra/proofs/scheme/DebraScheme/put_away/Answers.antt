@@ -16,7 +16,8 @@ put_first-requires-clause-owned g c = let s = c.put_row-retired.ensures.step in 
     (subst IsRef c.retired.view_is c.retired.invariant)
 
 pub put_first-requires-clause-apart : goal.put_first-requires-clause-apart
-put_first-requires-clause-apart g c = let s = c.put_row-retired.ensures.step in then_apart (view c.args.pass.now) c.args.taken s.0 c.args.local.now.reading s.1 (view c.put_row-retired.new.pass) c.put_row-retired.result s.2 c.put_row-retired.ensures.record c.args.local.now.current c.requires.local.bags.current_bag.chain
+put_first-requires-clause-apart g c = let s = c.put_row-retired.ensures.step in then_apart (view c.args.pass.now) c.args.taken s.0 c.args.local.now.reading s.1 (view c.put_row-retired.new.pass) c.put_row-retired.result s.2
+    c.put_row-retired.ensures.record c.args.local.now.current c.requires.local.bags.current_bag.chain
 
 -- what putting the record in front told
 put : (g : _) (c : goal.After-put_first g) → HasPut c.args.local.now.current (retired (view c.args.pass.now) c.args.taken c.put_row-retired.ensures.step.0 c.args.local.now.reading) c.args.taken (view c.put_first.new.pass)
