@@ -3,17 +3,17 @@ ghost use Rattle.std.specs.Prelude.{◌<◌};
 ghost use Rattle.michael_hash.specs.Callers.{IsWholeCallerOf};
 
 use crate::holding::{Kept, hold_while_keys_go};
-use crate::reclaimed::{are_told, come_and_go, only, take};
+use crate::reclaimed::{are_told, come_and_go, only, play, take};
 use alloc_bump::Bump;
 use manager::Caller;
 use michael_hash::MichaelHash;
 use michael_list::MichaelShape;
 use pool::NoPool;
-use reclaim_api::Scheme;
+use reclaim_api::{Holding, Scheme};
 use reclaim_ibr::Ibr;
 use record_memory::{BIRTH, STAMP, field_of};
-use record_table::Closed;
-use row_words::{Generation, number_of};
+use record_table::{Closed, Held, Node};
+use row_words::{Generation, Ref, number_of};
 use set_api::{Answer, ConcurrentSet};
 use set_model::{Call, Counts};
 use std::test::Fail;
@@ -117,5 +117,42 @@ fn lives_in_another_callers_interval_stay(rt: HostRuntime) -> Result<(), Fail> {
         spent: 0,
     };
     assert_eq!(rt; hash.counts(&other), told);
+    Ok(())
+}
+
+// Inside a guard of the caller: whether another caller let keys 1 to 16 come and go and added key 17 then, and what two tries
+// to hold the record of key 17 answer.
+fn two_tries_behind_16_births<R: Scheme>(
+    hash: &MichaelHash<R, Bump, NoPool>,
+    caller: &mut Caller<MichaelShape, R>,
+    other: &mut Caller<MichaelShape, R>,
+) -> (bool, Holding, Holding)
+    requires caller { IsWholeCallerOf R.is_local hash.now.lists.manager.table caller.old }
+    requires other { IsWholeCallerOf R.is_local hash.now.lists.manager.table other.old }
+{
+    let mut guard = hash.begin(caller);
+    let gone = come_and_go(hash, other, 1, 16);
+    let done = play(hash, other, Call::Insert(17)) == Answer::Done(true) && gone;
+    let one = guard.hold(0, Node::Root(0), 3);
+    let another = guard.hold(0, Node::Root(0), 3);
+    guard.finish();
+    (done, one, another)
+}
+
+// The epoch moved on since the caller began. Its first try to hold raises the upper end of its interval, and the second holds.
+#[test]
+fn a_caller_tries_again_where_the_epoch_moved(rt: HostRuntime) -> Result<(), Fail> {
+    let first = Generation::new(1).ok_or("one")?;
+    let (hash, mut callers) = IbrHash::prepare(rt.alloc(), 33, 2, first, 1)?;
+    let mut other = take(&hash, &mut callers).ok_or("caller 1")?;
+    let mut caller = take(&hash, &mut callers).ok_or("caller 0")?;
+    let (done, one, another) = two_tries_behind_16_births(&hash, &mut caller, &mut other);
+    assert!(rt; done);
+    assert_eq!(rt; one, Holding::Moved { found: 2 });
+    let held = Held {
+        place: 0,
+        target: Ref::new(18, first),
+    };
+    assert_eq!(rt; another, Holding::Held(held));
     Ok(())
 }
