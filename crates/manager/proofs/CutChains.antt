@@ -1,5 +1,5 @@
 -- The first 32 free records are cut off their chain, and put back.
-use Rattle.std.proofs.Common.{◌≡◌, ◌≢◌, ℕ, ◌-◌, ◌<◌, ◌≤◌, List, [], ◌∷◌, ◌++◌, append_assoc, length, get_or, Option, None, sym, refl, ap, ◌∙◌, subst, arith}
+use Rattle.std.proofs.Common.{◌≡◌, ◌≢◌, ℕ, ◌-◌, ◌≤◌, List, [], ◌∷◌, ◌++◌, append_assoc, get_or, Option, None, sym, refl, ap, ◌∙◌, subst, arith}
 use native.Mathlib.Decide.{ℕ_discrete}
 use Rattle.record_memory.specs.declared.steps.Step.{Step}
 use Rattle.record_memory.specs.declared.steps.Word.TheVariants.{Field}
@@ -17,7 +17,7 @@ use Rattle.record_rule.specs.ChainRows.{row_in, row_of_share, share_with}
 use Rattle.record_rule.proofs.Makes.{idle_mine}
 use Rattle.reclaim_api.specs.Chained.{IsAs, IsChainOf, refs_in}
 use Rattle.reclaim_api.proofs.Kept.{as_stays}
-use Rattle.record_pieces.specs.OwnSteps.{own_load, own_store}
+use Rattle.record_pieces.specs.OwnSteps.{own_load}
 use Rattle.record_pieces.specs.Giving.{chain_loads, CutsOff, Mends}
 use Rattle.pool.specs.Calls.{IsFull}
 use Rattle.manager.specs.Giving.{GoesAlong}

@@ -1,5 +1,5 @@
 -- A load and a store of the chain word of a free record.
-use Rattle.std.proofs.Common.{◌≡◌, ℕ, zero, suc, ◌-◌, ◌<◌, ◌≤◌, List, [], ◌∷◌, length, length-set, get_or, set, get_or-set_other, Option, Some, None, sym, refl, ap, ◌∙◌, subst}
+use Rattle.std.proofs.Common.{◌≡◌, ℕ, zero, suc, ◌-◌, ◌<◌, ◌≤◌, List, [], ◌∷◌, length-set, get_or, set, get_or-set_other, Option, Some, None, sym, refl, ap, ◌∙◌, subst}
 use native.Mathlib.Decide.{ℕ_discrete}
 use Rattle.record_memory.specs.declared.steps.Step.{Step}
 use Rattle.record_memory.specs.declared.books.Moves.{Moves}
@@ -8,7 +8,7 @@ use Rattle.record_memory.specs.declared.books.Share.{Share}
 use Rattle.record_memory.specs.declared.books.Standing.{Standing}
 use Rattle.record_memory.specs.declared.books.Standing.TheVariants.{Free}
 use Rattle.row_words.specs.Refs.{RefParts}
-use Rattle.record_rule.specs.Kinds.{loaded, stored, stored_as, share_in, share_after, standing_after, moves_stored, field_load, field_store, is_idle_as, idle}
+use Rattle.record_rule.specs.Kinds.{loaded, stored, stored_as, share_after, standing_after, moves_stored, field_load, field_store, is_idle_as, idle}
 use Rattle.record_rule.specs.ChainRows.{row_in, row_of_share, share_with, IsChained, IsAway, OwnsAway}
 use Rattle.record_rule.specs.Makes.{Makes}
 use Rattle.record_rule.proofs.Makes.{makes_one, idle_set}

@@ -1,12 +1,10 @@
 -- A chain of free records goes to the pool.
-use Rattle.std.proofs.Common.{◌≡◌, ◌≢◌, ℕ, ◌+◌, ◌-◌, List, All, get_or, sym, ap, ◌∙◌, subst, ◌≤◌, None}
+use Rattle.std.proofs.Common.{◌≡◌, ℕ, ◌+◌, ◌-◌, List, All, get_or, sym, ap, ◌∙◌, subst, ◌≤◌}
 use Rattle.record_memory.specs.declared.books.View.{View}
-use Rattle.record_memory.specs.declared.books.Setup.{Setup}
 use Rattle.record_memory.specs.declared.books.Standing.TheVariants.{Free}
 use Rattle.record_memory.specs.declared.steps.Step.{Step}
 use Rattle.row_words.specs.Refs.{RefParts}
 use Rattle.row_words.specs.declared.links.Chain.{Chain}
-use Rattle.limbo_bags.specs.Chains.{IsChain}
 use Rattle.limbo_bags.specs.Wholes.{AreApart}
 use Rattle.limbo_bags.proofs.Chains.{chain_kept}
 use Rattle.record_rule.specs.Kinds.{share_in, idle}

@@ -1,4 +1,4 @@
-use Rattle.std.proofs.Common.{◌≡◌, inl, inr, refl, sym, ◌∙◌, arith}
+use Rattle.std.proofs.Common.{inl, inr, refl, sym, ◌∙◌, arith}
 use Rattle.record_table.specs.Handles.{view, same_then}
 use Rattle.record_pieces.specs.Giving.{gave_all, kept_one, gave_one}
 use Rattle.manager.proofs.ChainCounts.{free_is}

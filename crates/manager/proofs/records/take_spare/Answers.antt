@@ -74,7 +74,10 @@ returns-clause-answers g c = let p = c.birth-birth.new.pass in let q = c.take_sp
 
 pub returns-clause-does : goal.returns-clause-does
 returns-clause-does g c = let b = c.birth-birth in let v : View = view b.new.pass in let w : View = view c.take_spare-own.new.pass in let n = (took g c).number in (
-  v.own, b.result, n, b.ensures.does,
+  v.own,
+  b.result,
+  n,
+  b.ensures.does,
   subst (λ (z : RefParts). OneStep v.own (own_load v.own z 1 n) w.own) (sym c.take_spare-own.ensures.record) (made g c).appended,
 )
 
