@@ -15,6 +15,7 @@ ghost use Rattle.reclaim_ibr.specs.Steps.{upper_stored};
 
 use crate::epochs::load_epoch;
 use crate::{Ibr, Interval};
+use reclaim_api::NONE_FREED;
 use record_memory::announcement;
 use record_table::{Pass, Shape, Table};
 use row_words::{Chain, Freed};
@@ -23,9 +24,6 @@ use row_words::{Chain, Freed};
 const LOWER: u32 = 0;
 
 const UPPER: u32 = 1;
-
-// Nothing left limbo.
-const NONE_FREED: Freed = Freed { freed: 0, spent: 0 };
 
 // Stores an end of its caller's interval.
 fn store_end<S: Shape>(table: &Table<S, Ibr>, pass: &mut Pass<S, Ibr>, end: u32, value: u64)

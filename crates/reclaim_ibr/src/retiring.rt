@@ -25,16 +25,13 @@ use crate::chains::sift_bag;
 use crate::epochs::read_epoch;
 use crate::{Ibr, Interval};
 use arrayvec::ArrayVec;
-use reclaim_api::put_first;
+use reclaim_api::{NONE_FREED, put_first};
 use record_memory::announcement;
 use record_table::{Pass, Shape, Table, TakenOut};
 use row_words::{Chain, Freed};
 
 // One retirement in so many scans the intervals.
 const EACH: u8 = 16;
-
-// Nothing left limbo.
-const NONE_FREED: Freed = Freed { freed: 0, spent: 0 };
 
 // Retires a record with the last reading as its stamp: it comes in front of the bag, and is counted.
 fn keep<S: Shape>(
@@ -54,7 +51,7 @@ fn keep<S: Shape>(
     ensures kept { HasKept (view pass.old) taken epoch (view pass.new) }
 {
     let retired = table.put_row(pass, taken, epoch);
-    // A reference is in range.
+    // A reference is in range, so its record has a row.
     let _index = retired.index;
     put_first(table, pass, &mut local.bag, retired);
     local.retired = (local.retired + 1) % EACH;
@@ -67,6 +64,7 @@ fn load_end<S: Shape>(table: &Table<S, Ibr>, pass: &mut Pass<S, Ibr>, n: u32) ->
     ensures pass { IsSamePass pass.old pass.new }
     ensures loaded { LoadedControl ibr (view pass.old) (20 + scan_word n) result (view pass.new) }
 {
+    // There are at most 64 callers, so the word's number is in range.
     let _few = table.callers();
     table.load_control(pass, announcement(n / 2, n % 2))
 }
