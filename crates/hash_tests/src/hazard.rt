@@ -44,6 +44,29 @@ fn records_with_the_last_generation_are_spent(rt: HostRuntime) -> Result<(), Fai
     Ok(())
 }
 
+// With 64 callers the scan is at the 384th retirement, over 192 words. It keeps the record that the caller's own word names.
+#[test]
+fn a_scan_goes_over_the_words_of_64_callers(rt: HostRuntime) -> Result<(), Fail> {
+    let first = Generation::new(1).ok_or("one")?;
+    let (hash, mut callers) = HazardHash::prepare(rt.alloc(), 385, 64, first, 1)?;
+    let mut caller = take(&hash, &mut callers).ok_or("a caller")?;
+    assert!(rt; come_and_go(&hash, &mut caller, 1, 383));
+    assert_eq!(rt; hash.counts(&caller).limbo, 383);
+    assert!(rt; come_and_go(&hash, &mut caller, 384, 384));
+    let counts = Counts {
+        drawn: 384,
+        reused: 0,
+        retired: 384,
+        freed: 383,
+        limbo: 1,
+        free: 383,
+        spare: 0,
+        spent: 0,
+    };
+    assert_eq!(rt; hash.counts(&caller), counts);
+    Ok(())
+}
+
 // Inside a guard of the caller, which holds the record of key 1: what became of it when another caller had taken away
 // key 1 and keys 2 to 12, how key 13 was added then, and the record that the first bucket led to.
 fn key_13_beside_one_held<R: Scheme>(
