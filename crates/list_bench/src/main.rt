@@ -1,6 +1,6 @@
 //! Plays the calls of a generated workload of one caller on Michael's list, as the one bucket of a hash table, and prints
-//! how many were answered yes. The arguments are the number of calls, the number of keys, and the reclaimer: `none`, `debra`
-//! or `hazard`.
+//! how many were answered yes. The arguments are the number of calls, the number of keys, and the reclaimer: `none`, `debra`,
+//! `hazard` or `2geibr`.
 #![tactic(auto)]
 
 ghost use Rattle.std.specs.Prelude.{◌<◌, ◌≤◌, All, IfSome};

@@ -21,7 +21,7 @@ pub advanced_try : (v u w : View) (e n : ℕ) → HasRead v e u → e < LAST_EPO
 unfolding idle
 advanced_try v u w e n read lt is = (
   epoch_load v.own e ∷ epoch_exchange v.own e n ∷ [],
-  record { epoch = e; tried = epoch_exchange v.own e n ∷ []; tries = one_try lt n; steps = refl },
+  record { epoch = e; rise = read.rise; limit = read.limit; tried = epoch_exchange v.own e n ∷ []; tries = one_try lt n; steps = refl },
   ap (λ (x : View). x.own.steps) is ∙ ap (λ (x : View). x.own.steps ++ epoch_exchange x.own e n ∷ []) read.view ∙ append_assoc v.own.steps (epoch_load v.own e ∷ []) (epoch_exchange v.own e n ∷ []),
 )
 
@@ -29,7 +29,7 @@ advanced_try v u w e n read lt is = (
 pub advanced_last : (v u : View) (e : ℕ) → HasRead v e u → LAST_EPOCH ≤ e → (made : List Step) × Advances v.own made × (u.own.steps ≡ v.own.steps ++ made)
 advanced_last v u e read le = (
   epoch_load v.own e ∷ [],
-  record { epoch = e; tried = []; tries = no_try le; steps = refl },
+  record { epoch = e; rise = read.rise; limit = read.limit; tried = []; tries = no_try le; steps = refl },
   ap (λ (x : View). x.own.steps) read.view,
 )
 

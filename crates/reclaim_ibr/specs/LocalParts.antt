@@ -8,7 +8,7 @@ use Rattle.reclaim_api.specs.Chained.{IsChainOf}
 use Rattle.reclaim_api.specs.Frames.{had}
 use Rattle.reclaim_ibr.specs.declared.interval.Interval.{Interval}
 
--- one birth in so many is tried with the epoch, and one retirement in so many with a scan
+-- at one birth in so many the epoch is tried, and at one retirement in so many the intervals are scanned
 abbrev pub EACH : ℕ
 EACH = 16
 

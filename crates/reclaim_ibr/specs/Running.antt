@@ -45,6 +45,8 @@ pub data Tries (b : Book) (e : ℕ) : List Step → Type 0 where
 -- the epoch is loaded and tried
 pub record Advances (b : Book) (made : List Step) : Type 0 where
   pub epoch : ℕ
+  pub rise : reading b.guard 0 ≤ epoch
+  pub limit : epoch ≤ LAST_EPOCH
   pub tried : List Step
   pub tries : Tries b epoch tried
   pub steps : made ≡ epoch_load b epoch ∷ tried

@@ -19,7 +19,7 @@ use record_table::{Pass, Shape, Table};
 // The last epoch, the greatest number that a word of 44 bits holds.
 const LAST_EPOCH: u64 = 17_592_186_044_415;
 
-// One birth in so many is tried with the epoch: that keeps few lives in one epoch, at one exchange in so many births.
+// At one birth in so many the epoch is tried: that keeps few lives in one epoch, at one exchange in so many births.
 const EACH: u8 = 16;
 
 // Loads the epoch, and tries it once from there to the next one. Not at the last epoch.
