@@ -55,7 +55,8 @@ saw_none v w n h = ⊎_elim
     (length u.own.steps, t, subst (λ (l : List Step). At l (length u.own.steps) t) (sym (ap (λ (x : View). x.own.steps) misses.steps)) (at_last u.own.steps t (length u.own.steps) refl), refl, misses.none))
     h
 
-module _ (enters : Setup → Book → Freed → Book → Type 0) (leaves : Setup → Book → Book → Type 0) (bears : Setup → Book → ℕ → Book → Type 0) (reaches : Setup → ℕ → Node → ℕ → Book → Holding → Book → Type 0) (puts_away : Setup → Book → RefParts → Freed → Book → Type 0)
+module _ (enters : Setup → Book → Freed → Book → Type 0) (leaves : Setup → Book → Book → Type 0) (bears : Setup → Book → ℕ → Book → Type 0)
+    (reaches : Setup → ℕ → Node → ℕ → Book → Holding → Book → Type 0) (puts_away : Setup → Book → RefParts → Freed → Book → Type 0)
     (enters_adds : (k : Setup) (b : Book) (f : Freed) (c : Book) → enters k b f c → AddsSteps b c)
     (leaves_adds : (k : Setup) (b c : Book) → leaves k b c → AddsSteps b c)
     (bears_adds : (k : Setup) (b : Book) (n : ℕ) (c : Book) → bears k b n c → AddsSteps b c)

@@ -49,7 +49,8 @@ module _ (setup : Setup) (records : List Record) (some : 0 < setup.roots) (roote
   one_list : (n m p q i : ℕ) → n < setup.roots → m < setup.roots → StandsOn (rows setup records) n p i → StandsOn (rows setup records) m q i → n ≡ m
   one_list n m p q i h k x y = let a = stands_spot n p i h x in let b = stands_spot m q i k y in sym a.2 ∙ ap (λ (s : Spot). s.home) (order.single i a.0 b.0 a.1 b.1) ∙ b.2
 
-  linked_of : (n p i : ℕ) → n < setup.roots → StandsOn (rows setup records) n p i → (r : Record) × At records i r × (r.place ≡ Linked) × (n ≡ row_key (rows setup records) i % setup.roots) × ((b : Spot) × S i b × (b.rank ≡ row_key (rows setup records) i + 1)) × ¬ (i < setup.roots)
+  linked_of : (n p i : ℕ) → n < setup.roots → StandsOn (rows setup records) n p i → (r : Record) × At records i r × (r.place ≡ Linked)
+      × (n ≡ row_key (rows setup records) i % setup.roots) × ((b : Spot) × S i b × (b.rank ≡ row_key (rows setup records) i + 1)) × ¬ (i < setup.roots)
   linked_of n p i h x = let a = stands_spot n p i h x in let l = linked_spot setup records sound many rooted i a.0 a.1 a.3 in (l.0, l.1, l.2, sym a.2 ∙ l.3, (a.0, a.1, l.4), l.5)
 
   -- a linked record stands on the path of its key's root

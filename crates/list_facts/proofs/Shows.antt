@@ -52,7 +52,8 @@ linked_at : (s : ShapeFacts) (cells : List ShapeCell) (near : Near) (i generatio
 linked_at s cells (at_root n) i generation m body held at = let no : ⊥ = cc in absurd no
 linked_at s cells (at_held r note) i generation m body held at = at
 
-module _ {flags : ℕ → Type 0} {setup : Setup} {x : ShapeInput} {h : Trace} (fits : ListFits flags setup x) (told : ListTold x h) {s : ShapeFacts} {near : Near} {f : ℕ} {l : LinkParts} {target : Option (List ℕ)} (n : NodeIs s x.cells near f l) (seen : TargetSeen s x.cells l.target target) where
+module _ {flags : ℕ → Type 0} {setup : Setup} {x : ShapeInput} {h : Trace} (fits : ListFits flags setup x) (told : ListTold x h)
+    {s : ShapeFacts} {near : Near} {f : ℕ} {l : LinkParts} {target : Option (List ℕ)} (n : NodeIs s x.cells near f l) (seen : TargetSeen s x.cells l.target target) where
   -- no key is present between the node and what its link leads to
   none_between : ¬ HasMark (link_at n.body 3) → f ≡ 3 → IsTargetSeen (link_at n.body 3).target target → (k : ℕ) → k % setup.roots ≡ home_at setup (root_at s near) n.body → rank_at (root_at s near) n.body < k + 1
       → MatchOption (rank_of target) (Unit {0}) (λ r. k + 1 < r) → IsPresent x.cells k → ⊥

@@ -17,7 +17,8 @@ use Rattle.list_facts.proofs.Cells.{spot_is, one_spot, spot_set, spot_here, spot
 use Rattle.list_facts.proofs.Nodes.{cell_near, spot_near, alike_near, linked_near, near_spot, target_is, node_at, node_spot}
 
 -- a node's cell is as it should be after its link was set
-sorted_near : (flags : ℕ → Type 0) (near : Near) (generation m m' : ℕ) (body body' : List ℕ) (new : LinkParts) → IsSorted flags (cell_near near generation body m) → link_at body' 3 ≡ new → word_in body' 4 ≡ word_in body 4 → flags new.flags → (¬ IsRecord near → ¬ HasMark new)
+sorted_near : (flags : ℕ → Type 0) (near : Near) (generation m m' : ℕ) (body body' : List ℕ) (new : LinkParts) → IsSorted flags (cell_near near generation body m)
+    → link_at body' 3 ≡ new → word_in body' 4 ≡ word_in body 4 → flags new.flags → (¬ IsRecord near → ¬ HasMark new)
     → IsSorted flags (cell_near near generation body' m')
 sorted_near flags (at_root n) generation m m' body body' new was link word may clear = rw link (may, clear (λ r. r))
 sorted_near flags (at_held r note) generation m m' body body' new was link word may clear = (rw link may, ap kind_in word ∙ was.1)

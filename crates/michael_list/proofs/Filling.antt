@@ -25,7 +25,8 @@ behind p root key None beyond = (None, at_end, tt)
 behind p root key (Some at) beyond = (Some (near_of (view p) (from_place at.place at.target)), at_place at.place at.target beyond.0.there.holds, (beyond.1, beyond.0.keyed))
 
 -- it is filled by two stores, and may be linked
-pub may_link : {S R : Type 0} (p : Pass S R) (root key : ℕ) (before : Node) (next : Option Held) (setup : Setup) (own : RefParts) (u v : View) (expected : LinkParts) → (view p).setup ≡ setup → key % setup.roots ≡ root → key < 2 ^ 40 → StandsBefore p root key before → IsBeyond p root key next
+pub may_link : {S R : Type 0} (p : Pass S R) (root key : ℕ) (before : Node) (next : Option Held) (setup : Setup) (own : RefParts) (u v : View) (expected : LinkParts)
+    → (view p).setup ≡ setup → key % setup.roots ≡ root → key < 2 ^ 40 → StandsBefore p root key before → IsBeyond p root key next
     → IsOwnOf u own → v ≡ stored u own.index 4 (packed_number own.generation key) → view p ≡ stored v own.index 3 (packed_number own.generation (packed_ref (target_of next))) → expected ≡ record { flags = 0; target = target_of next }
     → (row : List ℕ) × (near : Option Near) × HasOwn (view p) own row × IsNextOf (view p) expected.target near × MayPublish 0 setup (near_of (view p) (origin before)) 3 expected (drop 3 row) near (Some (Insert key))
 may_link p root key before next setup own u v expected same home fits stands beyond has first second is =

@@ -12,7 +12,8 @@ use Rattle.manager.specs.Guards.{Did, DidAll}
 use Rattle.set_calls.proofs.Going.{did_one, did_then}
 use Rattle.michael_list.specs.Walks.{loads}
 
-module _ {S R L A P : Type 0} {r : OfScheme R L} {a : OfAllocator A} {p : OfPool P} (f g h : Guard S R A P L r a p) (at : Held) (found : ℕ) (link : LinkParts) (seen : ℕ) (same : g.manager.now ≡ f.manager.now) (key : Did f (keyed at.target found) g) (look : Did g (looked (At at) 3 link seen) h) where
+module _ {S R L A P : Type 0} {r : OfScheme R L} {a : OfAllocator A} {p : OfPool P} (f g h : Guard S R A P L r a p) (at : Held) (found : ℕ) (link : LinkParts)
+    (seen : ℕ) (same : g.manager.now ≡ f.manager.now) (key : Did f (keyed at.target found) g) (look : Did g (looked (At at) 3 link seen) h) where
   pub did_loads : DidAll f (loads at found link seen) h
   did_loads = did_then f g h (keyed at.target found ∷ []) (looked (At at) 3 link seen ∷ []) same (did_one f g (keyed at.target found) key) (did_one g h (looked (At at) 3 link seen) look)
 

@@ -33,7 +33,8 @@ pub rank_of_near : (n : Near) (body : List ℕ) → FitsBody michael n body → 
 rank_of_near (at_root n) body fits keyed = refl
 rank_of_near (at_held r note) body fits keyed = ap (λ k. k + 1) (sym (noted_key michael note body fits keyed))
 
-module _ {S R : Type 0} (p q : Pass S R) (place root key : ℕ) (before : Node) (link : LinkParts) (same_setup : (view q).setup ≡ (view p).setup) (none : AnswersNone (view p) (view q)) (seen : HasSeen michael place (origin before) p q link) (clear : mark_bit link ≡ 0) (at : StandsBefore p root key before) (home : key % (view p).setup.roots ≡ root) where
+module _ {S R : Type 0} (p q : Pass S R) (place root key : ℕ) (before : Node) (link : LinkParts) (same_setup : (view q).setup ≡ (view p).setup) (none : AnswersNone (view p) (view q))
+    (seen : HasSeen michael place (origin before) p q link) (clear : mark_bit link ≡ 0) (at : StandsBefore p root key before) (home : key % (view p).setup.roots ≡ root) where
   -- the node's link as it was loaded
   link_is : link_at seen.saw.body 3 ≡ link
   link_is = ap link_in seen.saw.word ∙ seen.link_is

@@ -32,7 +32,8 @@ module _ {S R : Type 0} (q : Pass S R) (root key : ℕ) (has : root < (view q).s
   next_from before node low made (Found spot) es fs lands next walks hops = let no_way : ⊥ = cc in absurd no_way
 
   -- or ends there
-  pub ends_at : (before : Node) (spot : Spot) (low : ℕ) (landing : Landing) (fs : List Event) → IsLanding q root key before low landing → IsNext root before landing (Err spot) → Hops key before landing (shown_by (view q) landing) fs → IsSpot q root key spot × Hops key before (Found spot) (Some (shown_at (view q) spot)) fs
+  pub ends_at : (before : Node) (spot : Spot) (low : ℕ) (landing : Landing) (fs : List Event) → IsLanding q root key before low landing → IsNext root before landing (Err spot)
+      → Hops key before landing (shown_by (view q) landing) fs → IsSpot q root key spot × Hops key before (Found spot) (Some (shown_at (view q) spot)) fs
   ends_at before spot low (On at found) fs lands next hops = let no_way : ⊥ = cc in absurd no_way
   ends_at before spot low Stays fs lands next hops = let no_way : ⊥ = cc in absurd no_way
   ends_at before spot low Restarts fs lands next hops = let no_way : ⊥ = cc in absurd no_way

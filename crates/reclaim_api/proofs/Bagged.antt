@@ -265,7 +265,8 @@ module _ (t : LimboRecord → Bool) (v : View) where
 
       -- and all that are spent when they leave are in it
       pub spent_whole : count_by (λ (r : RefParts). t (limbo_read v r) && eqb r.generation 1048575) (refs_in v chain) ≡ count_spent t 0 v.own.mine
-      spent_whole = sym (over_spent (refs_in v chain) h.list.owned) ∙ over_whole (leaves_one t) (spends_one t) (λ j. refl) less (refs_in v chain) v.own.mine h.list.distinct h.list.in_range (over_refs (refs_in v chain) h.list.owned ∙ whole ∙ freed_sum t 0 v.own.mine) ∙ sym (spent_sum t 0 v.own.mine)
+      spent_whole = sym (over_spent (refs_in v chain) h.list.owned)
+          ∙ over_whole (leaves_one t) (spends_one t) (λ j. refl) less (refs_in v chain) v.own.mine h.list.distinct h.list.in_range (over_refs (refs_in v chain) h.list.owned ∙ whole ∙ freed_sum t 0 v.own.mine) ∙ sym (spent_sum t 0 v.own.mine)
         where
           by : (p q : Bool) → cond {A = ℕ} p (cond q 1 0) 0 ≤ cond {A = ℕ} p 1 0
           by true true = omega arith
@@ -292,5 +293,6 @@ pub bag_whole : (t : LimboRecord → Bool) (v : View) (chain : Chain) → IsChai
 bag_whole t v chain h all many = count_all (λ r. t (limbo_read v r)) (refs_in v chain) all ∙ sym h.list.count ∙ many
 
 -- and those of it at the last generation are all that are spent
-pub bag_spent : (t : LimboRecord → Bool) (v : View) (chain : Chain) → IsChainOf Limbo v chain → All (λ r. t (limbo_read v r) ≡ true) (refs_in v chain) → chain.count ≡ bag_count t v.own → count_by (λ (r : RefParts). eqb r.generation 1048575) (refs_in v chain) ≡ count_spent t 0 v.own.mine
+pub bag_spent : (t : LimboRecord → Bool) (v : View) (chain : Chain) → IsChainOf Limbo v chain → All (λ r. t (limbo_read v r) ≡ true) (refs_in v chain)
+    → chain.count ≡ bag_count t v.own → count_by (λ (r : RefParts). eqb r.generation 1048575) (refs_in v chain) ≡ count_spent t 0 v.own.mine
 bag_spent t v chain h all many = sym (count_both (λ r. t (limbo_read v r)) (λ r. eqb r.generation 1048575) (refs_in v chain) all) ∙ spent_whole t v chain h (bag_whole t v chain h all many)

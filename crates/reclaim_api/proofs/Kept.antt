@@ -113,7 +113,8 @@ own_rest_but v w r share taken rest records o own = let h = own.1 in (
 )
   where
     by : Dec (o.index - 1 ≡ r.index - 1) → share_in w o.index ≡ Some own.1.share
-    by (yes e) = let same : own.1.share ≡ share = some_same own.1.share share (sym own.1.known ∙ ap (λ j. get_or v.own.mine j None) e ∙ taken.known) in let two : Own ≡ TakenOut = sym own.1.standing_is ∙ ap (λ (x : Share). x.standing) same ∙ taken.standing in let none : ⊥ = cc in absurd none
+    by (yes e) = let same : own.1.share ≡ share = some_same own.1.share share (sym own.1.known ∙ ap (λ j. get_or v.own.mine j None) e ∙ taken.known) in
+        let two : Own ≡ TakenOut = sym own.1.standing_is ∙ ap (λ (x : Share). x.standing) same ∙ taken.standing in let none : ⊥ = cc in absurd none
     by (no ne) = rest_is (share_in w o.index) own.1.share (rest.rest (o.index - 1) ne ∙ ap in_rest own.1.known ∙ ap (rest_as own.1.share) own.1.standing_is)
 
 -- a record is retired

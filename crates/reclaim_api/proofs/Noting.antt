@@ -31,13 +31,15 @@ noted_word note n f m same at = by (ℕ_discrete f 0)
 pub noting_keeps : (b : Bool) (notes : List Note) (o : Origin) (n place f m : ℕ) → (f ≡ 0 → ¬ IsElsewhere o place → m ≡ n) → At (note_in notes place).words f (Some m) → At (note_in (noting b notes o 3 n) place).words f (Some m)
 noting_keeps false notes o n place f m same at = at
 noting_keeps true notes (from_root k) n place f m same at = at
-noting_keeps true notes (from_place p r) n place f m same at = got_set_any (λ (x : Note). At x.words f (Some m)) notes p place (note_word (note_in notes p) 3 n) no_note at (λ e. noted_word (note_in notes p) n f m (λ z. same z (λ ne. ne e)) (subst (λ k. At (note_in notes k).words f (Some m)) e at))
+noting_keeps true notes (from_place p r) n place f m same at = got_set_any (λ (x : Note). At x.words f (Some m)) notes p place (note_word (note_in notes p) 3 n) no_note at
+    (λ e. noted_word (note_in notes p) n f m (λ z. same z (λ ne. ne e)) (subst (λ k. At (note_in notes k).words f (Some m)) e at))
 
 -- and each note has as many words
 pub noting_long : (b : Bool) (notes : List Note) (o : Origin) (n place : ℕ) → length (note_in (noting b notes o 3 n) place).words ≡ length (note_in notes place).words
 noting_long false notes o n place = refl
 noting_long true notes (from_root k) n place = refl
-noting_long true notes (from_place p r) n place = got_set_any (λ (x : Note). length x.words ≡ length (note_in notes place).words) notes p place (note_word (note_in notes p) 3 n) no_note refl (λ e. length-set (note_in notes p).words 0 (Some n) ∙ ap (λ k. length (note_in notes k).words) (sym e))
+noting_long true notes (from_place p r) n place = got_set_any (λ (x : Note). length x.words ≡ length (note_in notes place).words) notes p place
+    (note_word (note_in notes p) 3 n) no_note refl (λ e. length-set (note_in notes p).words 0 (Some n) ∙ ap (λ k. length (note_in notes k).words) (sym e))
 
 -- and was reached when it was
 pub noting_reached : (b : Bool) (notes : List Note) (o : Origin) (n place : ℕ) → (note_in (noting b notes o 3 n) place).reached_at ≡ (note_in notes place).reached_at

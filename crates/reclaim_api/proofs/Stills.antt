@@ -40,12 +40,13 @@ forgotten h Spent = λ k. record h { words = set-set h.words 1 0 0 k }
 forgotten h q = refl
 
 same_but : (g h : Share) → unchained (Some h) ≡ unchained (Some g) → SameButChain g h
-same_but g h e = let s : record h { words = set h.words 1 0 } ≡ record g { words = set g.words 1 0 } = sym (forgotten h h.standing) ∙ ap (λ (x : Share). record x { words = set x.words 1 0 }) (some_same (unchained_as h h.standing) (unchained_as g g.standing) e) ∙ forgotten g g.standing in record {
-  standing = ap (λ (x : Share). x.standing) s;
-  generation = ap (λ (x : Share). x.generation) s;
-  taken_number = ap (λ (x : Share). x.taken_number) s;
-  words = ap (λ (x : Share). x.words) s;
-}
+same_but g h e = let s : record h { words = set h.words 1 0 } ≡ record g { words = set g.words 1 0 } = sym (forgotten h h.standing)
+    ∙ ap (λ (x : Share). record x { words = set x.words 1 0 }) (some_same (unchained_as h h.standing) (unchained_as g g.standing) e) ∙ forgotten g g.standing in record {
+      standing = ap (λ (x : Share). x.standing) s;
+      generation = ap (λ (x : Share). x.generation) s;
+      taken_number = ap (λ (x : Share). x.taken_number) s;
+      words = ap (λ (x : Share). x.words) s;
+    }
 
 -- it has as many words
 pub same_long : (g h : Share) → SameButChain g h → length h.words ≡ length g.words

@@ -29,6 +29,7 @@ own_stored c v w word k value is lt low told = subst (λ (j : ℕ). (found : ℕ
     (subst (λ (x : Word). (found : ℕ) × StoredControl c v x value found w) (announced_at v.setup.callers word (4 * v.own.caller + k) is (omega (arith, lt, low))) told)
 
 -- an exchange of the epoch from e to e + 1, by what it found
-pub epoch_tried : (v w : View) (e : ℕ) (r : Result (Unit {0}) ℕ) → MatchResult r (λ _. w ≡ made_step v (control_step v Exchange 1 e (e + 1))) (λ found. (found ≡ e → ⊥) × (w ≡ made_step v (control_step v Exchange 1 found found))) → (n : ℕ) × (w ≡ made_step v (epoch_exchange v.own e n))
+pub epoch_tried : (v w : View) (e : ℕ) (r : Result (Unit {0}) ℕ)
+    → MatchResult r (λ _. w ≡ made_step v (control_step v Exchange 1 e (e + 1))) (λ found. (found ≡ e → ⊥) × (w ≡ made_step v (control_step v Exchange 1 found found))) → (n : ℕ) × (w ≡ made_step v (epoch_exchange v.own e n))
 epoch_tried v w e (Ok u) told = (e, told ∙ ap (λ (b : Bool). made_step v (control_step v Exchange 1 e (cond b (e + 1) e))) (sym (eq-eqb e e refl)))
 epoch_tried v w e (Err n) told = (n, told.1 ∙ ap (λ (b : Bool). made_step v (control_step v Exchange 1 n (cond b (e + 1) n))) (sym (ne_eqb n e told.0)))

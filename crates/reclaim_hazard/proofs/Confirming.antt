@@ -70,7 +70,8 @@ module _ (s : ShapeFacts) {S R : Type 0} (p then q : Pass S R) (o : Origin) (pla
     seen : (link : LinkParts) → link_in h.word ≡ link → HasSeen s place o p q link
     seen link e = has_seen s hazard p q at_load o (record { place = place; first = false; step = length (view then).own.steps + 2 }) h.word h.told whole setup_is
         (near_same (view then) at_load o place (λ other ne. refl) elsewhere ∙ near_same (view p) (view then) o place (note_else s p then o place n told same later) elsewhere) low goes_started
-        (subst (λ (g : Guard). g.start_updates ≤ length (view q).seen_updates) (sym guard_is) (let a = start_seen s p then o place n told same later in let e = ap (λ (l : List Update). length l) h.told.whole.seen_updates.1 in let f = length-append (view then).seen_updates h.told.whole.seen_updates.0 in omega arith)) link e
+        (subst (λ (g : Guard). g.start_updates ≤ length (view q).seen_updates) (sym guard_is) (let a = start_seen s p then o place n told same later in
+        let e = ap (λ (l : List Update). length l) h.told.whole.seen_updates.1 in let f = length-append (view then).seen_updates h.told.whole.seen_updates.0 in omega arith)) link e
 
     -- the word names the target, so that it is held where the link leads to it
     module _ (four : length (view p).own.guard.announced ≡ 4) (clear : mark_bit (link_in h.word) ≡ 0) (to : (link_in h.word).target ≡ Some target) where
@@ -87,7 +88,8 @@ module _ (s : ShapeFacts) {S R : Type 0} (p then q : Pass S R) (o : Origin) (pla
       holds_there = record {
         started = goes_started;
         within = let w = h.told.within target leads in subst (λ (v : View). target.index ≤ v.setup.records) (sym h.told.view) w;
-        holds = subst (λ (g : Guard). At g.holds place (Some target)) (sym (ap (λ (v : View). v.own.guard) h.told.view ∙ ap (λ (t : Option RefParts). record at_load.own.guard { holds = set at_load.own.guard.holds place t; pending = None }) named)) (set_here at_load.own.guard.holds place (Some target) (let m = h.told.many in omega arith));
+        holds = subst (λ (g : Guard). At g.holds place (Some target)) (sym (ap (λ (v : View). v.own.guard) h.told.view ∙ ap (λ (t : Option RefParts). record at_load.own.guard { holds = set at_load.own.guard.holds place t; pending = None }) named))
+            (set_here at_load.own.guard.holds place (Some target) (let m = h.told.many in omega arith));
       }
 
     -- so both links tell the answer

@@ -18,7 +18,8 @@ near_same v w (from_root n) place notes else = λ k. near_of v (from_root n)
 near_same v w (from_place p r) place notes else = ap (at_held r) (notes p (λ e. else (sym e)))
 
 -- `v` is what the pass knew at that load
-pub has_seen : (s : ShapeFacts) (c : CoverFacts) {S R : Type 0} (p q : Pass S R) (v : View) (o : Origin) (r : Reach) (n : ℕ) (told : ReachedLink s c v o 3 r n (view q)) → AreWhole (view p) (view q).seen_updates (view q).seen_taken_out → v.setup ≡ (view p).setup → near_of v o ≡ near_of (view p) o
+pub has_seen : (s : ShapeFacts) (c : CoverFacts) {S R : Type 0} (p q : Pass S R) (v : View) (o : Origin) (r : Reach) (n : ℕ) (told : ReachedLink s c v o 3 r n (view q))
+    → AreWhole (view p) (view q).seen_updates (view q).seen_taken_out → v.setup ≡ (view p).setup → near_of v o ≡ near_of (view p) o
     → r.place < c.places → HasStarted q → (view q).own.guard.start_updates ≤ length (view q).seen_updates → (link : LinkParts) → link_in n ≡ link → HasSeen s r.place o p q link
 has_seen s c p q v o r n told whole setup near low started since link e = record {
   word = n;

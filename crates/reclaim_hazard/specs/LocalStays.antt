@@ -29,7 +29,8 @@ local_by l i i' s s' v w setup caller stays many words loaded h = record {
 }
 
 -- so where the caller knows the same of all records
-pub local_on : (l : Retired) (i i' : Bool) (s s' v w : View) → w.setup ≡ v.setup → w.own.caller ≡ v.own.caller → w.own.mine ≡ v.own.mine → length w.own.guard.announced ≡ length v.own.guard.announced → w.own.guard.loaded ≡ v.own.guard.loaded → IsLocal l i s v → IsLocal l i' s' w
+pub local_on : (l : Retired) (i i' : Bool) (s s' v w : View) → w.setup ≡ v.setup → w.own.caller ≡ v.own.caller → w.own.mine ≡ v.own.mine
+    → length w.own.guard.announced ≡ length v.own.guard.announced → w.own.guard.loaded ≡ v.own.guard.loaded → IsLocal l i s v → IsLocal l i' s' w
 local_on l i i' s s' v w setup caller mine words loaded h = local_by l i i' s s' v w setup caller (λ j x known is. ap (λ (m : List (Option Share)). get_or m (j - 1) None) mine ∙ known) (ap (λ (m : List (Option Share)). count_by (is_as is_limbo) m) mine) words loaded h
 
 pub local_same : (l : Retired) (inside : Bool) (s v w : View) → SamePart hazard v w → IsLocal l inside s v → IsLocal l inside s w

@@ -58,7 +58,8 @@ local_away l upper i j s t v w setup caller stays many retired births guard guar
     (h.retired ∙ ap (λ (n : ℕ). n % EACH) (sym retired)) (chain_stays Limbo v w (ap (λ (k : Setup). k.records) setup) stays l.bag h.bag) (h.whole ∙ sym many) h
 
 -- so where the caller knows the same of all records and made no move of one
-pub local_on : (l : Interval) (upper : ℕ) (i j : Bool) (s t v w : View) → w.setup ≡ v.setup → w.own.caller ≡ v.own.caller → w.own.mine ≡ v.own.mine → w.own.moves ≡ v.own.moves → IsSettled w.own.guard upper → IsGuarded j t w → IsLocal l i s v → IsLocal (record l { upper = upper }) j t w
+pub local_on : (l : Interval) (upper : ℕ) (i j : Bool) (s t v w : View) → w.setup ≡ v.setup → w.own.caller ≡ v.own.caller → w.own.mine ≡ v.own.mine
+    → w.own.moves ≡ v.own.moves → IsSettled w.own.guard upper → IsGuarded j t w → IsLocal l i s v → IsLocal (record l { upper = upper }) j t w
 local_on l upper i j s t v w setup caller mine moves = local_away l upper i j s t v w setup caller (λ k x known is. ap (λ (m : List (Option Share)). get_or m (k - 1) None) mine ∙ known) (ap (λ (m : List (Option Share)). count_by (is_as is_limbo) m) mine)
     (ap (λ (m : Moves). m.retired) moves) (ap (λ (m : Moves). m.births) moves)
 

@@ -136,7 +136,16 @@ module _ (v : View) (i : ℕ) (place : Word) (name : place ≡ Field i 1) (h : S
       ∙ ap (put_aside_as v i value) known) record { same = record { caller = refl; setup = refl; present = refl; others = refl }; step = field_store v i 1 value h; one = refl; kind_is = refl; word_is = sym name; found_is = over v i 1 place name h known n t.1; left_is = refl; idle_is = refl }
 
   pub adds_spare : (n : ℕ) (w : View) → (w ≡ took_spare v i n) × IsKnown v i 1 n → Adds Load place n n v w
-  adds_spare n w t = adds_by Load place n n v w _ (t.0 ∙ ap (took_spare_as v i n) known) record { same = record { caller = refl; setup = refl; present = refl; others = refl }; step = field_load v i 1 n; one = refl; kind_is = refl; word_is = sym name; found_is = refl; left_is = refl; idle_is = refl }
+  adds_spare n w t = adds_by Load place n n v w _ (t.0 ∙ ap (took_spare_as v i n) known) record {
+    same = record { caller = refl; setup = refl; present = refl; others = refl };
+    step = field_load v i 1 n;
+    one = refl;
+    kind_is = refl;
+    word_is = sym name;
+    found_is = refl;
+    left_is = refl;
+    idle_is = refl;
+  }
 
 -- a free record is taken again
 pub adds_free : (v : View) (r : RefParts) (place : Word) → place ≡ Field r.index 1 → (n : ℕ) (w : View) → LoadedFree v r n w → Adds Load place n n v w
@@ -197,7 +206,8 @@ pub adds_draw : (v : View) (x : Word) (n : ℕ) (w : View) → x ≡ Drawn → w
 adds_draw v x n w name e one = adds_by Add x n ((n + 1) % 2 ^ 64) v w _ e record { same = record { caller = refl; setup = refl; present = refl; others = refl }; step = draw_step v n; one = refl; kind_is = refl; word_is = sym name; found_is = refl; left_is = sym one; idle_is = refl }
 
 module _ (c : CoverFacts) (v : View) (place : Word) (value found : ℕ) (w : View) where
-  adds_if : (b : Bool) (updates : List Update) (taken_out : List RefParts) (own : Book) (k : ℕ) → own.caller ≡ v.own.caller → own.steps ≡ v.own.steps ++ own_store v k found value ∷ [] → place ≡ Announced (4 * v.own.caller + k) → Adds Store place found value v (seeing_if b v updates taken_out own)
+  adds_if : (b : Bool) (updates : List Update) (taken_out : List RefParts) (own : Book) (k : ℕ) → own.caller ≡ v.own.caller → own.steps ≡ v.own.steps ++ own_store v k found value ∷ []
+      → place ≡ Announced (4 * v.own.caller + k) → Adds Store place found value v (seeing_if b v updates taken_out own)
   adds_if true updates taken_out own k caller one name = record { same = record { caller = caller; setup = refl; present = refl; others = refl }; step = own_store v k found value; one = one; kind_is = refl; word_is = sym name; found_is = refl; left_is = refl; idle_is = refl }
   adds_if false updates taken_out own k caller one name = record { same = record { caller = caller; setup = refl; present = refl; others = refl }; step = own_store v k found value; one = one; kind_is = refl; word_is = sym name; found_is = refl; left_is = refl; idle_is = refl }
 

@@ -54,7 +54,11 @@ module _ (s : ShapeFacts) {S R : Type 0} (p : Pass S R) (call : Call) (present r
 -- what is known once it was placed
 read_placed : (s : ShapeFacts) (v w : View) (found position : ℕ) (call : Call) (reply : Bool) → MayPlaceIn s v position call reply → StartsWith v.seen_updates v.front → w ≡ placed_view v 0 found position call reply → Read call reply v w
 read_placed s v w found position call reply may whole is = record {
-  behind = (let m = may.may.behind in let d = whole.1 in (take (position - length v.front) whole.0, front ∙ ap (take position) d ∙ ap (λ k. take k (v.front ++ whole.0)) (let z : position ≡ length v.front + (position - length v.front) = omega arith in z) ∙ take-append-add v.front whole.0 (position - length v.front)));
+  behind = (let m = may.may.behind in let d = whole.1 in (
+    take (position - length v.front) whole.0,
+    front ∙ ap (take position) d
+        ∙ ap (λ k. take k (v.front ++ whole.0)) (let z : position ≡ length v.front + (position - length v.front) = omega arith in z) ∙ take-append-add v.front whole.0 (position - length v.front),
+  ));
   replies = subst (λ (l : List Update). replies_for v.setup.set l call reply) (sym front) may.may.replies;
   answered = ap (λ (x : View). x.own.answered) is ∙ ap (λ k. v.own.answered ++ (read_at k call reply ∷ [])) position_is;
 }

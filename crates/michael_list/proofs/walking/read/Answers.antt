@@ -22,8 +22,10 @@ use Rattle.michael_list.proofs.walking.read.Goals as goal
 key_told : (g : _) (c : goal.After-load_link-link g) → LoadedKey (view c.args.guard.now.caller.now.pass) c.args.at.now.place c.args.at.now.target c.load_key-found.ensures.step.0 (view c.load_key-found.new.self.caller.now.pass)
 key_told g c = subst (λ (h : Held). LoadedKey (view c.args.guard.now.caller.now.pass) h.place h.target c.load_key-found.ensures.step.0 (view c.load_key-found.new.self.caller.now.pass)) c.same_held.ensures c.load_key-found.ensures.step.2
 
-link_told : (g : _) (c : goal.After-load_link-link g) → LoadedLink michael g.R.Cover.facts (view c.load_key-found.new.self.caller.now.pass) (from_place c.args.at.now.place c.args.at.now.target) 3 (is_first c.load_key-found.new.self.caller.now.pass) c.load_link-link.ensures.step.0 (view c.load_link-link.new.self.caller.now.pass)
-link_told g c = subst (λ (h : Held). LoadedLink michael g.R.Cover.facts (view c.load_key-found.new.self.caller.now.pass) (from_place h.place h.target) 3 (is_first c.load_key-found.new.self.caller.now.pass) c.load_link-link.ensures.step.0 (view c.load_link-link.new.self.caller.now.pass)) c.same_held-2.ensures c.load_link-link.ensures.step.2
+link_told : (g : _) (c : goal.After-load_link-link g) → LoadedLink michael g.R.Cover.facts (view c.load_key-found.new.self.caller.now.pass)
+    (from_place c.args.at.now.place c.args.at.now.target) 3 (is_first c.load_key-found.new.self.caller.now.pass) c.load_link-link.ensures.step.0 (view c.load_link-link.new.self.caller.now.pass)
+link_told g c = subst (λ (h : Held). LoadedLink michael g.R.Cover.facts (view c.load_key-found.new.self.caller.now.pass) (from_place h.place h.target) 3
+    (is_first c.load_key-found.new.self.caller.now.pass) c.load_link-link.ensures.step.0 (view c.load_link-link.new.self.caller.now.pass)) c.same_held-2.ensures c.load_link-link.ensures.step.2
 
 -- what was reached is so after the first load
 after_key : (g : _) (c : goal.After-load_link-link g) → HasReachedNext c.load_key-found.new.self.caller.now.pass c.args.root c.args.key c.args.before.now c.args.at.now (view c.args.guard.now.caller.now.pass).own.updates_seen
