@@ -17,7 +17,7 @@ fn words_in(alloc: Global, line: &'static str) -> Result<Vec<&'static str>, Allo
 }
 
 /// Words that are refused, for what is wrong with them.
-const WORDS: [&str; 62] = [
+const WORDS: [&str; 79] = [
     // No mode, or another spelling of one.
     "",
     "Play --set plain --reclaimer none",
@@ -30,6 +30,14 @@ const WORDS: [&str; 62] = [
     "play --reclaimer none",
     "play --set plain --reclaimer",
     "play --set plain --reclaimer none --records",
+    "play --reclaimer none --set",
+    "play --set plain --reclaimer none --allocator",
+    "play --set plain --reclaimer none --buckets",
+    "generate --calls 0 --keys 1 --seed 7 --callers",
+    "generate --callers 2 --keys 1 --seed 7 --calls",
+    "generate --callers 2 --calls 0 --seed 7 --keys",
+    "generate --callers 2 --calls 0 --keys 1 --seed",
+    "generate --callers 2 --calls 0 --keys 1 --seed 7 --shared",
     "generate --callers 2 --calls 0 --keys 1",
     "generate --callers 2 --calls 0 --seed 7",
     "generate --callers 2 --keys 1 --seed 7",
@@ -50,11 +58,20 @@ const WORDS: [&str; 62] = [
     "generate --callers 2 --calls 0 --keys 1 --seed 7 --shared no --shared no",
     // A name of another mode, or of none.
     "play --set plain --reclaimer none --callers 1",
+    "play --set plain --reclaimer none --calls 0",
+    "play --set plain --reclaimer none --keys 1",
+    "play --set plain --reclaimer none --seed 7",
     "play --set plain --reclaimer none --shared no",
     "play --set plain --reclaimer none --threads 1",
     "check --set plain",
     "check check",
     "generate --set plain --callers 2 --calls 0 --keys 1 --seed 7",
+    "generate --callers 2 --calls 0 --keys 1 --seed 7 --reclaimer none",
+    "generate --callers 2 --calls 0 --keys 1 --seed 7 --allocator bump",
+    "generate --callers 2 --calls 0 --keys 1 --seed 7 --buckets 64",
+    "generate --callers 2 --calls 0 --keys 1 --seed 7 --records 100",
+    "trial --set plain --reclaimer none --callers 2 --calls 0 --keys 1 --seed 7 --allocator bump",
+    "trial --set plain --reclaimer none --callers 2 --calls 0 --keys 1 --seed 7 --records 100",
     "trial --set plain --reclaimer none --callers 2 --calls 0 --keys 1 --seed 7 --shared no",
     "trial --set plain --reclaimer none --callers 2 --calls 0 --keys 1 --seed 7 --buckets 64",
     // A value that isn't one of its name's, or just out of range.
