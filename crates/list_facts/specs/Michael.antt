@@ -1,5 +1,5 @@
 -- The facts of Michael's list.
-use Rattle.std.specs.Prelude.{◌≡◌, ◌<◌, None}
+use Rattle.std.specs.Prelude.{◌≡◌, ◌<◌, false, None}
 use Rattle.set_model.specs.declared.names.SetName.TheVariants.{Michael}
 use Rattle.record_rule.specs.Facts.{ShapeFacts}
 use Rattle.list_facts.specs.Lists.{ListFits}
@@ -20,7 +20,7 @@ michael = record {
   may_exchange = MayMark 0;
   may_publish = MayPublish 0;
   may_unlink = λ setup near f old gone new next call. (old.flags ≡ 0) × MayUnlink setup near f gone new × (call ≡ None);
-  lockable = λ f. ⊥;
+  lockable = λ f. false;
   may_hold_frozen = λ setup near kept f. f ≡ 3;
   shown = ListShown (λ n. n < 2);
 }

@@ -7,6 +7,7 @@ ghost use Rattle.row_words.specs.Packing.{key_in, link_in, packed_number, IsLink
 ghost use Rattle.record_rule.specs.Facts.{Near, clean};
 ghost use Rattle.record_rule.specs.Kinds.{stored};
 ghost use Rattle.record_rule.specs.Links.{near_of, LoadedKey, LoadedLink, ExchangedLink, PublishedLink, UnlinkedRecord, IsNextOf, Decides, HasTaken};
+ghost use Rattle.record_rule.specs.LockedLinks.{IsUnlocked};
 ghost use Rattle.record_rule.specs.HandingOut.{HasOwn, IsOwnOf};
 ghost use Rattle.record_rule.specs.Makes.{Makes};
 ghost use Rattle.record_table.specs.Handles.{setup_of, view, IsPassOf, IsSamePass};
@@ -180,8 +181,9 @@ impl<'a, S: Shape, R: Scheme, A: Allocator, P: Pool> Guard<'a, S, R, A, P> {
     }
 
     /// Exchanges a link of a root or of a held record from `expected` to `new`, where the set allows
-    /// that. `field` is 3. `decides` names the call that the step decides where it succeeds. It is
-    /// refused exactly where the word held another link, and then nothing changed.
+    /// that. `field` is 3. Where the set says that the word may be locked, `expected` hasn't the flag
+    /// `LOCK`. `decides` names the call that the step decides where it succeeds. It is refused exactly
+    /// where the word held another link, and then nothing changed.
     pub fn exchange_link(
         &mut self,
         node: Node,
@@ -194,6 +196,7 @@ impl<'a, S: Shape, R: Scheme, A: Allocator, P: Pool> Guard<'a, S, R, A, P> {
         requires node { HoldsNode self.old.caller.now.pass node }
         requires field { field ≡ 3 }
         requires links { IsLink expected × IsLink new }
+        requires unlocked { IsUnlocked S.facts 3 expected }
         requires decides { Decides S.facts (view self.old.caller.now.pass) decides }
         requires allowed { S.facts.may_exchange (setup_of self.old.manager.now.table) (near_of (view self.old.caller.now.pass) (origin node)) 3 expected new decides }
         ensures same_reference { (self.new.caller.ghost_name ≡ self.old.caller.ghost_name) × (self.new.manager.now ≡ self.old.manager.now) }
@@ -219,8 +222,8 @@ impl<'a, S: Shape, R: Scheme, A: Allocator, P: Pool> Guard<'a, S, R, A, P> {
     }
 
     /// Links an own record behind a root or a held record, without flags, where the set allows that: an
-    /// exchange of the node's link from `expected`. `field` and `decides` are as for `exchange_link`. It
-    /// is refused exactly where the word held another link, and hands `own` back.
+    /// exchange of the node's link from `expected`. `field`, `expected` and `decides` are as for
+    /// `exchange_link`. It is refused exactly where the word held another link, and hands `own` back.
     pub fn publish(
         &mut self,
         node: Node,
@@ -233,6 +236,7 @@ impl<'a, S: Shape, R: Scheme, A: Allocator, P: Pool> Guard<'a, S, R, A, P> {
         requires node { HoldsNode self.old.caller.now.pass node }
         requires field { field ≡ 3 }
         requires link { IsLink expected }
+        requires unlocked { IsUnlocked S.facts 3 expected }
         requires decides { Decides S.facts (view self.old.caller.now.pass) decides }
         requires allowed { (row : List ℕ) × (next : Option Near) × HasOwn (view self.old.caller.now.pass) own row × IsNextOf (view self.old.caller.now.pass) expected.target next
             × S.facts.may_publish (setup_of self.old.manager.now.table) (near_of (view self.old.caller.now.pass) (origin node)) 3 expected (drop 3 row) next decides }

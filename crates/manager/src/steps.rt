@@ -6,6 +6,7 @@ ghost use Rattle.record_rule.specs.Facts.{Near, clean};
 ghost use Rattle.record_rule.specs.Kinds.{stored};
 ghost use Rattle.record_rule.specs.HandingOut.{HasOwn, IsOwnOf};
 ghost use Rattle.record_rule.specs.Links.{LoadedKey, LoadedLink, ExchangedLink, PublishedLink, UnlinkedRecord, near_of, IsNextOf, Decides};
+ghost use Rattle.record_rule.specs.LockedLinks.{IsUnlocked};
 ghost use Rattle.record_table.specs.Handles.{setup_of, view, IsPassOf, IsSamePass};
 ghost use Rattle.record_table.specs.Nodes.{origin, origin_held, HoldsThere, HoldsNode, HasStarted, is_first, MayPlaceIn, IsRefused};
 ghost use Rattle.record_rule.specs.Placing.{placed_view};
@@ -75,6 +76,7 @@ pub(crate) fn exchange_link<S: Shape, R: Scheme>(
     requires node { HoldsNode caller.old.pass node }
     requires field { field ≡ 3 }
     requires links { IsLink expected × IsLink new }
+    requires unlocked { IsUnlocked S.facts 3 expected }
     requires decides { Decides S.facts (view caller.old.pass) decides }
     requires allowed { S.facts.may_exchange (setup_of table.now) (near_of (view caller.old.pass) (origin node)) 3 expected new decides }
     ensures of { IsPassOf table.now caller.new.pass }
@@ -105,6 +107,7 @@ pub(crate) fn publish<S: Shape, R: Scheme>(
     requires node { HoldsNode caller.old.pass node }
     requires field { field ≡ 3 }
     requires link { IsLink expected }
+    requires unlocked { IsUnlocked S.facts 3 expected }
     requires decides { Decides S.facts (view caller.old.pass) decides }
     requires allowed { (row : List ℕ) × (next : Option Near) × HasOwn (view caller.old.pass) own row × IsNextOf (view caller.old.pass) expected.target next
         × S.facts.may_publish (setup_of table.now) (near_of (view caller.old.pass) (origin node)) 3 expected (drop 3 row) next decides }

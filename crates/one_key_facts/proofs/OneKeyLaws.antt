@@ -84,6 +84,11 @@ one_key_laws = record {
   keys_stand = λ setup x near f l fits n. refl;
   reaches = λ setup x near f l t fits n hold clear to. reaches x near f l t fits n hold clear to;
   exchanges = λ setup x h t new given n in_range may. mark_keeps setup x h t.caller t.number t.near t.field t.old new t.call given n in_range may;
+  -- no word may be locked
+  locks = λ setup x t new fits n may lockable. let none : ⊥ = cc in absurd none;
+  comes_unlocked = λ setup t body next may g lockable. let none : ⊥ = cc in absurd none;
+  goes_unlocked = λ setup x t gone note new next i generation m body fits held may g lockable. let none : ⊥ = cc in absurd none;
+  leaves_unlocked = λ setup t gone note new next may lockable. let none : ⊥ = cc in absurd none;
   publishes = λ setup x h t own body marked next given n fits_next free ref long name may. link_keeps setup x h t.caller t.number t.near t.field t.old own body marked t.call given n free ref may;
   gone_linked = λ setup x t gone note new next fits n to may. gone_linked x t.near t.field t.old gone note new t.call fits n to may;
   follows = λ setup x h near f l start c kept t given n at behind known may to. absurd may;

@@ -91,7 +91,7 @@ one_key = record {
   may_exchange = λ setup near f old new call. MayMark near f old new call;
   may_publish = λ setup near f old body next call. MayLink near f old body call;
   may_unlink = λ setup near f old gone new next call. MayTakeOut near f old gone new call;
-  lockable = λ f. ⊥;
+  lockable = λ f. false;
   may_hold_frozen = λ setup near kept f. ⊥;
   shown = λ setup y updates. OneKeyShown y updates;
 }

@@ -1,5 +1,5 @@
 // What is known of each caller, and what a pass knows.
-use crate::{Step, Word};
+use crate::Step;
 use row_words::Ref;
 use set_model::{AllocatorName, Call, ReclaimerName, SetName, Update};
 use std::collections::LinkedList;
@@ -139,6 +139,16 @@ pub struct Guard {
     pub loaded: LinkedList<u64>,
 }
 
+/// A link word that a caller has locked. No other caller changes it, so its caller knows what it holds.
+pub struct LockedWord {
+    /// The index of its record, from 1.
+    pub index: u64,
+    /// Which of the record's words it is, from 0.
+    pub field: u64,
+    /// What it holds.
+    pub value: u64,
+}
+
 /// How many moves of records a caller made, over all its steps.
 pub struct Moves {
     /// Records that it drew.
@@ -167,7 +177,7 @@ pub struct Book {
     /// What it knows of the word that counts the records drawn.
     pub drawing: Drawing,
     /// The link words that it has locked.
-    pub locks: LinkedList<Word>,
+    pub locks: LinkedList<LockedWord>,
     /// Its calls that were answered Yes or No, in order.
     pub answered: LinkedList<Answered>,
     /// The call in progress, where others may decide it.

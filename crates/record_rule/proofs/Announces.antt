@@ -176,6 +176,7 @@ module _ (shape : ShapeFacts) (cover : CoverFacts) (shaped : ShapeLaws shape) (c
         (λ q. u.parts.held d gd notes q.1 noted) (at_set was.guards c d g' gd there);
     known = λ d gd notes roots there noted kept. each_known (KnownFits shape setup (shape_input was) u.updates) was.guards was.notes was.roots c g' v.own.notes roots' u.parts.known known' d gd notes roots there
         (subst (λ (l : List (List Note)). At l d notes) (sym (set_again was.notes c v.own.notes (at_map notes_of u.books c v.own mine))) noted) kept;
+    locks = u.parts.locks;
     shape = u.parts.shape;
     told = subst (λ (l : List Start). shape.told setup (shape_input was) (record (trace was) { starts = l })) (sym (map-set start_of was.guards c g')) start_known;
     scheme = covering.stores setup (scheme_input was) c k value (length v.own.steps + 1) (length u.updates) g (safe shape cover setup u.records u.books u.taken_out u.updates m u.places u.parts) u.parts.scheme my_guard low may;

@@ -128,6 +128,7 @@ module _ (s : ShapeFacts) (c : CoverFacts) (setup : Setup) (t : State (Unit {0})
     waiting = behind;
     whole = is_whole;
     read = rows_are_read laws numbers;
+    locked = parts.locks;
     formed = parts.shape;
     told = parts.told;
     covered = parts.scheme;

@@ -26,6 +26,7 @@ use Rattle.record_rule.specs.Records.{Record, IsSound, carried_by, carried}
 use Rattle.record_rule.specs.Inputs.{ShapeCell, linked, out, shape_cell, limbo, scheme_cell, was_taken, taken_at, taken_cell, guard_of, notes_of, roots_of, locks_of, answered_of, offer_of, Outline, outline, shape_input, Start, start_of, trace, SchemeInput, scheme_input}
 use Rattle.record_rule.specs.Facts.{At, LimboRecord, Moment, ShapeFacts, CoverFacts, of_root, of_held}
 use Rattle.record_rule.specs.Held.{HoldFits, while_linked, while_out, WaitFits, HeldFits}
+use Rattle.record_rule.proofs.Locks.{locks_hidden}
 use Rattle.record_rule.proofs.Waiting.{waits_hidden, waits_confirmed}
 use Rattle.record_rule.specs.Laws.{limbo_record, ShapeLaws, CoverLaws, IsSafe, IsThere, ValueIs, moment, with_guard, FreedCells, HiddenCells, IsHidden, HasLoaded, HasCleared, KeepsHidden}
 use Rattle.record_rule.specs.Known.{KnownFits}
@@ -294,6 +295,7 @@ module _ (shape : ShapeFacts) (cover : CoverFacts) (shaped : ShapeLaws shape) (c
     taken = u.parts.taken;
     held = held_all;
     known = known_all;
+    locks = locks_hidden shape was.shapes was.locks u.parts.locks (map shape_cell records') (hidden_cells may c u.records);
     shape = hid.stands.0;
     told = subst (λ (l : List _). shape.told setup (record (shape_input was) { cells = map shape_cell records' }) (record { updates = u.updates; starts = l; offers = was.offers })) (sym starts_same) hid.stands.1;
     scheme = frees1;

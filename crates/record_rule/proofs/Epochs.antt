@@ -64,6 +64,7 @@ module _ (shape : ShapeFacts) (cover : CoverFacts) (covering : CoverLaws cover) 
             taken = u.parts.taken;
             held = u.parts.held;
             known = u.parts.known;
+            locks = u.parts.locks;
             shape = u.parts.shape;
             told = u.parts.told;
             words = u.parts.words;

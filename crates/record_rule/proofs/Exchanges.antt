@@ -8,7 +8,9 @@ use Rattle.atomic_table.proofs.Lists.{at_map, set_here, set_again, exchanged}
 use Rattle.set_model.specs.declared.calls.Call.{Call}
 use Rattle.set_model.specs.declared.calls.Update.{Update}
 use Rattle.record_memory.specs.declared.steps.Word.TheVariants.{Drawn, Field}
+use Rattle.record_memory.specs.declared.steps.StepKind.{StepKind}
 use Rattle.record_memory.specs.declared.steps.StepKind.TheVariants.{Exchange}
+use Rattle.record_memory.specs.declared.books.LockedWord.{LockedWord}
 use Rattle.record_memory.specs.declared.steps.Step.{Step}
 use Rattle.record_memory.specs.declared.books.Setup.{Setup}
 use Rattle.record_memory.specs.declared.books.View.{View}
@@ -29,12 +31,14 @@ use Rattle.record_rule.specs.Held.{HeldFits}
 use Rattle.record_rule.specs.Known.{KnownFits}
 use Rattle.record_rule.specs.World.{StartsWith, IsRecent, Places, Parts, Rule}
 use Rattle.record_rule.specs.Counts.{CountsFit}
-use Rattle.record_rule.specs.Recorded.{StepFits}
+use Rattle.record_rule.specs.Recorded.{LeavesLink, StepFits}
 use Rattle.record_rule.specs.Kinds.{Lawful}
-use Rattle.record_rule.specs.Links.{Origin, index_of, generation_at, near_of, Holds, Decides, node_step, with_step, noting, own_update, decided, RefusedLink, link_word, ExchangedLink, ToldExchange}
+use Rattle.record_rule.specs.Links.{Origin, index_of, generation_at, near_of, Holds, Decides, node_step, with_step, noting, own_update, decided, RefusedLink, link_word, locks_after, LeftLink, ExchangedLink, ToldExchange}
+use Rattle.record_rule.specs.Locks.{LocksFit}
+use Rattle.record_rule.specs.LockedLinks.{IsUnlocked}
 use Rattle.record_rule.proofs.Lists.{below_at, map_set_same}
 use Rattle.record_rule.proofs.Rebuilt.{starts_itself, one_more, Steps, elsewhere, stepped, made_more}
-use Rattle.record_rule.proofs.Quiet.{calm_after, places_calm}
+use Rattle.record_rule.proofs.Quiet.{IsCalm, calm_after, places_calm}
 use Rattle.record_rule.proofs.Owners.{index_in}
 use Rattle.record_rule.proofs.HeldMoves.{has_recelled, held_relinked}
 use Rattle.record_rule.proofs.Recents.{recent_more, recent_noting}
@@ -44,6 +48,7 @@ use Rattle.record_rule.proofs.Moves.{IsSeenOrRoot, whole, relinked_record, relin
 use Rattle.record_rule.proofs.Permitted.{either_is}
 use Rattle.record_rule.proofs.Steps.{before, given, book, are_whole, noted_within, recent_now, own_behind, kept_calm}
 use Rattle.record_rule.proofs.Nodes.{NodeOf, noted_there, node_of, five, node_with, found_word, found_own, finds_held, node_finds, found_link}
+use Rattle.record_rule.proofs.LockedNodes.{Locked, exchange_locked}
 use Rattle.record_rule.proofs.Outlines.{each_held, held_noting, each_known, known_noting}
 
 -- an exchange finds the old word or another one
@@ -95,7 +100,7 @@ module _ (shape : ShapeFacts) (cover : CoverFacts) (setup : Setup) (is_setup : I
           },
         ))
 
-    module _ (same : v.setup ≡ setup) (holds : Holds v o) (new : LinkParts) (is_new : IsLink new) (call : Option Call) (dec : Decides shape v call) (t : Step) (mine : List (Option Share)) (records : List Record) (taken_out : List RefParts) where
+    module _ (same : v.setup ≡ setup) (holds : Holds v o) (new : LinkParts) (is_new : IsLink new) (call : Option Call) (dec : Decides shape v call) (t : Step) (mine : List (Option Share)) (locks : List LockedWord) (records : List Record) (taken_out : List RefParts) where
       -- the node's body before the step
       abbrev body : List ℕ
       body = drop 3 n.node.row
@@ -113,7 +118,7 @@ module _ (shape : ShapeFacts) (cover : CoverFacts) (setup : Setup) (is_setup : I
 
       -- what the pass knows afterwards
       abbrev pub view_after : View
-      view_after = decided v u.updates taken_out call (record (with_step v.own v.setup.records t) { mine = mine; notes = noting (shape.settled f body') v.own.notes o f (link_word v.setup o new) })
+      view_after = decided v u.updates taken_out call (record (with_step v.own v.setup.records t) { mine = mine; locks = locks; notes = noting (shape.settled f body') v.own.notes o f (link_word v.setup o new) })
 
       -- the updates and the words afterwards
       abbrev updates' : List Update
@@ -146,7 +151,8 @@ module _ (shape : ShapeFacts) (cover : CoverFacts) (setup : Setup) (is_setup : I
           (held : (d : ℕ) (g : Guard) (notes : List Note) → At was.guards d g → At was.notes d notes → HeldFits shape cover.places (map shape_cell records) taken_out g notes)
           (scheme : cover.covered setup record (scheme_input was) { cells = map scheme_cell records; taken_out = taken_out })
           (keeps : Keeps shape setup (shape_input was) (trace was) (near_of v o) f old (node_with shape cover setup is_setup s u id v at present o n f old low old_is) new (own_update v call)
-          record { cells = set (map shape_cell records) (index_of o - 1) (cell_after old); taken_out = taken_out; locks = was.locks }) where
+          record { cells = set (map shape_cell records) (index_of o - 1) (cell_after old); taken_out = taken_out })
+          (locked : LocksFit shape (set (map shape_cell records) (index_of o - 1) (cell_after old)) (set was.locks c locks)) where
         -- where the node stands in the list, and the node after the step
         abbrev i : ℕ
         i = index_of o - 1
@@ -227,7 +233,7 @@ module _ (shape : ShapeFacts) (cover : CoverFacts) (setup : Setup) (is_setup : I
 
         -- how a set sees the table afterwards
         abbrev then : ShapeInput
-        then = record { cells = set cells i (cell_after old); taken_out = taken_out; locks = was.locks }
+        then = record { cells = set cells i (cell_after old); taken_out = taken_out }
 
         -- what each caller keeps is so still
         known_then : (d : ℕ) (g : Guard) (notes : List Note) (roots : List (List ℕ)) → At was.guards d g → At was.notes d notes → At was.roots d roots → KnownFits shape setup then updates' g notes roots
@@ -256,7 +262,7 @@ module _ (shape : ShapeFacts) (cover : CoverFacts) (setup : Setup) (is_setup : I
           guards = was.guards;
           notes = set was.notes c view_after.own.notes;
           roots = was.roots;
-          locks = was.locks;
+          locks = set was.locks c locks;
           answered = set was.answered c view_after.own.answered;
           offers = was.offers;
         }
@@ -271,7 +277,7 @@ module _ (shape : ShapeFacts) (cover : CoverFacts) (setup : Setup) (is_setup : I
           guards = map_set_same guard_of u.books c v.own view_after.own own_place refl k;
           notes = map-set notes_of u.books c view_after.own k;
           roots = map_set_same roots_of u.books c v.own view_after.own own_place refl k;
-          locks = map_set_same locks_of u.books c v.own view_after.own own_place refl k;
+          locks = map-set locks_of u.books c view_after.own k;
           answered = map-set answered_of u.books c view_after.own k;
           offers = map_set_same offer_of u.books c v.own view_after.own own_place refl k;
         }
@@ -284,6 +290,7 @@ module _ (shape : ShapeFacts) (cover : CoverFacts) (setup : Setup) (is_setup : I
               taken = taken;
               held = held_after;
               known = known_after;
+              locks = locked;
               shape = keeps.stands.0;
               told = keeps.stands.1;
               scheme = scheme;
@@ -292,33 +299,42 @@ module _ (shape : ShapeFacts) (cover : CoverFacts) (setup : Setup) (is_setup : I
               begun = λ d g there. let a = u.parts.begun d g there in let b = ap length (grown_by.more).1 in let l = length-append u.updates (grown_by.more).0 in omega arith;
             }) (counts_seen setup.first records (set u.books c view_after.own) i n.node r' there refl refl counts)
 
-    -- An exchange that finds the old link leaves the new one
-    exchanges : ShapeLaws shape → v.setup ≡ setup → Holds v o → (old new : LinkParts) (call : Option Call) → IsLink new → Decides shape v call → shape.may_exchange setup (near_of v o) f old new call → link_in (get_or n.node.row f 0) ≡ old → own_in (link_word setup o old) ≡ generation_at setup o
-        → (w : View) × Left (link_word setup o new) w × ExchangedLink shape v o f old new call w
-    exchanges shaped same holds old new call is_new dec may old_is own_is = let t : Step = node_step v Exchange o f (link_word v.setup o old) (link_word v.setup o new) in
-        let mine : List (Option Share) = v.own.mine in let w : View = view_after same holds new is_new call dec t mine u.records u.taken_out in (
+    -- A step that finds the old link leaves the new one, with these locks
+    pub relinks : ShapeLaws shape → v.setup ≡ setup → Holds v o → (kind : StepKind) → IsCalm kind → (old new : LinkParts) (call : Option Call) (is_new : IsLink new) → Decides shape v call → shape.may_exchange setup (near_of v o) f old new call
+        → link_in (get_or n.node.row f 0) ≡ old → own_in (link_word setup o old) ≡ generation_at setup o → LeavesLink kind (link_word v.setup o old) (link_word v.setup o new)
+        → (locks : List LockedWord) → Locked shape cover setup is_setup s u id v at present o n f low high u.records n.there new is_new locks → (w : View) × Left (link_word setup o new) w × LeftLink shape v kind o f old new call locks w
+    relinks shaped same holds kind calm old new call is_new dec may old_is own_is by locks locked = let t : Step = node_step v kind o f (link_word v.setup o old) (link_word v.setup o new) in
+        let mine : List (Option Share) = v.own.mine in let w : View = view_after same holds new is_new call dec t mine locks u.records u.taken_out in (
           w,
-          leaves same holds new is_new call dec t mine u.records u.taken_out old old_is n.there
-              (finds_held shape cover setup is_setup s u id v at present o n Exchange f (link_word v.setup o old) (link_word v.setup o new) (subst (λ (z : Setup). own_in (link_word z o old) ≡ generation_at setup o) (sym same) own_is)
-              (subst (λ (z : Setup). own_in (link_word z o new) ≡ generation_at setup o) (sym same) (own_in-packed_link (generation_at setup o) new is_new)) (inr refl)) (λ e. cc) (starts_itself u.taken_out)
-              (places_calm setup u.records u.books m c v.own w.own own_place refl refl (calm_after v.own.drawing v.setup.records t tt) u.places) (counts_calm setup.first u.records u.books c v.own w.own own_place u.counts refl) u.parts.taken u.parts.held u.parts.scheme
+          leaves same holds new is_new call dec t mine locks u.records u.taken_out old old_is n.there
+              (finds_held shape cover setup is_setup s u id v at present o n kind f (link_word v.setup o old) (link_word v.setup o new) (subst (λ (z : Setup). own_in (link_word z o old) ≡ generation_at setup o) (sym same) own_is)
+              (subst (λ (z : Setup). own_in (link_word z o new) ≡ generation_at setup o) (sym same) (own_in-packed_link (generation_at setup o) new is_new)) by) (λ e. cc) (starts_itself u.taken_out)
+              (places_calm setup u.records u.books m c v.own w.own own_place refl refl (calm_after v.own.drawing v.setup.records t calm) u.places) (counts_calm setup.first u.records u.books c v.own w.own own_place u.counts refl) u.parts.taken u.parts.held u.parts.scheme
               (shaped.exchanges setup (shape_input was) (trace was) record { caller = c; number = length v.own.answered + 1; near = near_of v o; field = f; old = old; call = call } new (given shape cover setup s u)
-              (node_with shape cover setup is_setup s u id v at present o n f old low old_is) is_new may),
+              (node_with shape cover setup is_setup s u id v at present o n f old low old_is) is_new may) (locked (marked_after n.node.marked old new (length u.updates))),
           record {
             updates = u.updates;
             taken_out = u.taken_out;
             whole = are_whole shape cover setup s u id v at present;
             body = with_link (drop 3 n.node.row) f n.node.generation new;
-            word = new_word same holds new is_new call dec t mine u.records u.taken_out;
+            word = new_word same holds new is_new call dec t mine locks u.records u.taken_out;
             view = refl;
           },
         )
 
+    -- An exchange that finds the old link, which isn't locked, leaves the new one
+    exchanges : ShapeLaws shape → v.setup ≡ setup → Holds v o → (old new : LinkParts) (call : Option Call) → IsLink new → IsUnlocked shape f old → Decides shape v call → shape.may_exchange setup (near_of v o) f old new call
+        → link_in (get_or n.node.row f 0) ≡ old → own_in (link_word setup o old) ≡ generation_at setup o → (w : View) × Left (link_word setup o new) w × ExchangedLink shape v o f old new call w
+    exchanges shaped same holds old new call is_new clear dec may old_is own_is = relinks shaped same holds Exchange tt old new call is_new dec may old_is own_is tt (locks_after shape v o f new)
+        (exchange_locked shape cover setup is_setup s u id v at present o n f low high u.records n.there new is_new u.parts.locks old old_is clear same
+        (λ lockable flag. shaped.locks setup (shape_input was) record { caller = c; number = length v.own.answered + 1; near = near_of v o; field = f; old = old; call = call } new u.parts.shape
+        (node_with shape cover setup is_setup s u id v at present o n f old low old_is) may lockable (clear lockable) flag))
+
 module _ (shape : ShapeFacts) (cover : CoverFacts) (shaped : ShapeLaws shape) (covering : CoverLaws cover) (setup : Setup) (is_setup : IsSetup setup) where
-  -- Where the set allows it by what the caller knows, a link may be exchanged for another
+  -- Where the set allows it by what the caller knows, a link that isn't locked may be exchanged for another
   pub exchanges_link : (id word f : ℕ) (v : View) (o : Origin) (old new : LinkParts) (call : Option Call) → v.present ≡ true → v.setup ≡ setup → word ≡ address setup.callers (Field (index_of o) f) → 3 ≤ f → f < 8 → IsLinkField f
-      → Holds v o → IsLink old → IsLink new → Decides shape v call → shape.may_exchange setup (near_of v o) f old new call
+      → Holds v o → IsLink old → IsLink new → IsUnlocked shape f old → Decides shape v call → shape.may_exchange setup (near_of v o) f old new call
       → Lawful (Rule shape cover setup) id v word (λ n. cond (eqb n (link_word setup o old)) (link_word setup o new) n) (λ n w. ToldExchange shape v o f old new call n w)
-  exchanges_link id word f v o old new call present same is low high field holds is_old is_new dec may s u at = let n = node_of shape cover setup is_setup s u id v at present o holds in
+  exchanges_link id word f v o old new call present same is low high field holds is_old is_new clear dec may s u at = let n = node_of shape cover setup is_setup s u id v at present o holds in
       let x = by_link shape cover setup is_setup s u id v at present o n word f is low high field same old new is_old (ExchangedLink shape v o f old new call)
-      (exchanges shape cover setup is_setup s u id v at present o n word f is low high shaped same holds old new call is_new dec may) in (x.0, x.1, record { made = x.2; refused = x.3 })
+      (exchanges shape cover setup is_setup s u id v at present o n word f is low high shaped same holds old new call is_new clear dec may) in (x.0, x.1, record { made = x.2; refused = x.3 })

@@ -35,6 +35,11 @@ pub mod Publishes
 pub mod Freed
 pub mod FreedCounts
 pub mod SeenCells
+pub mod Locks
+pub mod LockedNodes
+pub mod LockedStores
+pub mod LockedPublishes
+pub mod LockedUnlinks
 pub mod Controls
 pub mod Announces
 pub mod Placing

@@ -110,6 +110,7 @@ module _ (shape : ShapeFacts) (cover : CoverFacts) (setup : Setup) (s : State (U
       taken = u.parts.taken;
       held = each_held (HeldFits shape cover.places was.shapes u.taken_out) was.guards was.notes c g notes u.parts.held held;
       known = each_known (KnownFits shape setup (shape_input was) u.updates) was.guards was.notes was.roots c g notes roots u.parts.known known;
+      locks = u.parts.locks;
       shape = u.parts.shape;
       told = subst (λ (l : List Start). shape.told setup (shape_input was) (record (trace was) { starts = l })) (sym (map-set start_of was.guards c g)) told;
       scheme = covered;

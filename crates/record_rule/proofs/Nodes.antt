@@ -28,9 +28,9 @@ use Rattle.record_rule.proofs.Owners.{load_kept}
 use Rattle.record_rule.proofs.HeldMoves.{HasBody, IsNode, fits_node}
 use Rattle.record_rule.proofs.Moves.{IsSeenOrRoot, whole}
 use Rattle.record_rule.proofs.Rebuilt.{not_held}
-use Rattle.record_rule.specs.Recorded.{IsRootIndex, LeavesWord, StepFits}
+use Rattle.record_rule.specs.Recorded.{IsRootIndex, LeavesLink, LeavesWord, StepFits}
 use Rattle.record_memory.specs.declared.steps.StepKind.{StepKind}
-use Rattle.record_memory.specs.declared.steps.StepKind.TheVariants.{Load, Exchange}
+use Rattle.record_memory.specs.declared.steps.StepKind.TheVariants.{Load, Store, Swap, Add, Exchange}
 
 -- a word of a record, as one of its body
 pub body_word : (row : List ℕ) (f : ℕ) → 3 ≤ f → word_in (drop 3 row) f ≡ get_or row f 0
@@ -61,9 +61,21 @@ abbrev IsRooted : Setup → Origin → Type 0
 IsRooted setup (from_root n) = n < setup.roots
 IsRooted setup (from_place p r) = Unit {0}
 
--- a step of one of these kinds on a root
-root_leaves : (setup : Setup) (i : ℕ) (kind : StepKind) (found left : ℕ) → IsRootIndex setup i → own_in found ≡ setup.first → own_in left ≡ setup.first → ((kind ≡ Load) × (left ≡ found)) ⊎ (kind ≡ Exchange) → LeavesWord setup i kind found left
-root_leaves setup i kind found left at_it own own_left = ⊎_elim (λ x. subst (λ (k : StepKind). LeavesWord setup i k found left) (sym x.0) (x.1, λ _. own)) (λ x. subst (λ (k : StepKind). LeavesWord setup i k found left) (sym x) (at_it, own, own_left))
+-- a step on a root
+root_leaves : (setup : Setup) (i : ℕ) (kind : StepKind) (found left : ℕ) → IsRootIndex setup i → own_in found ≡ setup.first → own_in left ≡ setup.first → LeavesLink kind found left → LeavesWord setup i kind found left
+root_leaves setup i Load found left at_it own own_left on = (on, λ _. own)
+root_leaves setup i Store found left at_it own own_left on = inr ((at_it, own, own_left), on)
+root_leaves setup i Swap found left at_it own own_left on = on
+root_leaves setup i Add found left at_it own own_left on = on
+root_leaves setup i Exchange found left at_it own own_left on = (at_it, own, own_left)
+
+-- it is of one of three kinds
+node_kind : (kind : StepKind) (found left : ℕ) → LeavesLink kind found left → (kind ≡ Load) ⊎ ((kind ≡ Store) ⊎ (kind ≡ Exchange))
+node_kind Load found left on = inl refl
+node_kind Store found left on = inr (inl refl)
+node_kind Swap found left on = absurd on
+node_kind Add found left on = absurd on
+node_kind Exchange found left on = inr (inr refl)
 
 module _ (shape : ShapeFacts) (cover : CoverFacts) (setup : Setup) (is_setup : IsSetup setup) (t : State (Unit {0}) View) (u : Rule shape cover setup t) (id : ℕ) (v : View) (at : get_elem? t.views id ≡ some v) (present : v.present ≡ true) where
   -- how a set sees the records
@@ -173,14 +185,15 @@ module _ (shape : ShapeFacts) (cover : CoverFacts) (setup : Setup) (is_setup : I
   found_own o n word f is high = ap own_in (found_word o n word f is high) ∙ (u.places.sound (index_of o - 1) n.node n.there).generations f high ∙ whole n.node.place n.node.generation f (λ d k e. subst IsSeenOrRoot e n.seen) ∙ n.generation
 
   -- so does a step that says it found a word with this generation, and left one
-  pub finds_held : (o : Origin) → NodeOf o → (kind : StepKind) (f found left : ℕ) → own_in found ≡ generation_at setup o → own_in left ≡ generation_at setup o → ((kind ≡ Load) × (left ≡ found)) ⊎ (kind ≡ Exchange)
+  pub finds_held : (o : Origin) → NodeOf o → (kind : StepKind) (f found left : ℕ) → own_in found ≡ generation_at setup o → own_in left ≡ generation_at setup o → LeavesLink kind found left
       → StepFits setup v.own.caller (node_step v kind o f found left)
   finds_held (from_root m) n kind f found left own own_left on = let low : m < setup.roots = n.rooted in let within : m < length u.records = below_at u.records m n.node (subst (λ (z : ℕ). At u.records z n.node) (let e : m + 1 - 1 ≡ m = omega arith in e) n.there) in
       let at_it : IsRootIndex setup (m + 1) = (omega arith, omega arith, let e = u.places.many in omega arith) in
-      not_held setup v.own.caller (node_step v kind (from_root m) f found left) refl (⊎_elim (λ x. inl x.0) (λ x. inr (inr x)) on) (λ i g e. let same : m + 1 ≡ i = cc in
+      not_held setup v.own.caller (node_step v kind (from_root m) f found left) refl (node_kind kind found left on) (λ i g e. let same : m + 1 ≡ i = cc in
       subst (λ (z : ℕ). LeavesWord setup z kind found left) same (root_leaves setup (m + 1) kind found left at_it own own_left on))
   finds_held (from_place p r) n kind f found left own own_left on = record {
-    kind = ⊎_elim (λ x. inl x.0) (λ x. inr (inr x)) on;
+    kind = node_kind kind found left on;
+    by = λ q e. on;
     word = λ q e. let same : r ≡ q = cc in (f, ap (λ (z : RefParts). Field z.index f) same);
     own = λ q e. let same : r ≡ q = cc in own ∙ ap (λ (z : RefParts). z.generation) same;
     left = λ q e. let same : r ≡ q = cc in own_left ∙ ap (λ (z : RefParts). z.generation) same;
@@ -188,4 +201,4 @@ module _ (shape : ShapeFacts) (cover : CoverFacts) (setup : Setup) (is_setup : I
   }
 
   pub node_finds : (o : Origin) (n : NodeOf o) (kind : StepKind) (word f : ℕ) → word ≡ address setup.callers (Field (index_of o) f) → f < 8 → (kind ≡ Load) ⊎ (kind ≡ Exchange) → StepFits setup v.own.caller (node_step v kind o f (get_or t.words word 0) (get_or t.words word 0))
-  node_finds o n kind word f is high on = let own = found_own o n word f is high in finds_held o n kind f (get_or t.words word 0) (get_or t.words word 0) own own (⊎_elim (λ x. inl (x, refl)) inr on)
+  node_finds o n kind word f is high on = let own = found_own o n word f is high in finds_held o n kind f (get_or t.words word 0) (get_or t.words word 0) own own (⊎_elim (λ x. subst (λ (k : StepKind). LeavesLink k (get_or t.words word 0) (get_or t.words word 0)) (sym x) refl) (λ x. subst (λ (k : StepKind). LeavesLink k (get_or t.words word 0) (get_or t.words word 0)) (sym x) tt) on)

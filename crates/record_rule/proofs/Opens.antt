@@ -16,7 +16,7 @@ use Rattle.record_memory.specs.declared.books.Guard.{Guard}
 use Rattle.record_memory.specs.declared.books.Note.{Note}
 use Rattle.record_memory.specs.declared.books.Answered.{Answered}
 use Rattle.record_memory.specs.declared.books.Offer.{Offer}
-use Rattle.record_rule.specs.Inputs.{shape_cell, scheme_cell, TakenCell, untaken, was_taken, taken_cell, guard_of, notes_of, roots_of, locks_of, answered_of, offer_of, Outline, outline, ShapeInput, shape_input, trace}
+use Rattle.record_rule.specs.Inputs.{ShapeCell, shape_cell, scheme_cell, TakenCell, untaken, was_taken, taken_cell, guard_of, notes_of, roots_of, locks_of, answered_of, offer_of, Outline, outline, ShapeInput, shape_input, trace}
 use Rattle.record_rule.specs.Facts.{At, ShapeFacts, Stands, CoverFacts}
 use Rattle.record_rule.specs.Laws.{opening_shape, opening_scheme, ShapeLaws, CoverLaws}
 use Rattle.record_rule.specs.Taken.{generation_of}
@@ -26,6 +26,9 @@ use Rattle.std.proofs.lemmas.List.Sums.{sum_by-cons, sum_by-append}
 use Rattle.record_rule.specs.Counts.{lives_before, was_drawn, times_retired, times_freed, drawn_by, reused_by, retired_by, freed_by, CountsFit}
 use Rattle.record_rule.specs.World.{IsRecent, AreUntouched, carries, BookFits, SeatFits, Places, Parts, Rule}
 use Rattle.record_rule.specs.Opening.{opening_words, first_book, first_books, first_view, blank_note, root_record, blank_record, opening_records, opening_books}
+use Rattle.record_rule.specs.Locks.{LocksFit}
+use Rattle.record_memory.specs.declared.books.LockedWord.{LockedWord}
+use Rattle.record_rule.proofs.Locks.{none_locked}
 use Rattle.record_rule.proofs.Waiting.{none_waits}
 use Rattle.record_rule.proofs.Lists.{map_at, map-replicate, at_replicate, replicate_at, at_runs}
 pub use Rattle.record_rule.proofs.OpeningWords.{wide_is}
@@ -228,7 +231,7 @@ module _ (setup : Setup) (ok : IsSetup setup) (first : Guard) where
 
     -- the set's facts hold
     set_starts : Stands shape setup (shape_input made) (trace made)
-    set_starts = subst (λ (x : ShapeInput). Stands shape setup x (trace made)) (λ k. record { cells = sym shapes_are k; taken_out = []; locks = sym locks_are k }) (shaped.starts setup (trace made) ok.roots ok.rooted refl)
+    set_starts = subst (λ (x : ShapeInput). Stands shape setup x (trace made)) (λ k. record { cells = sym shapes_are k; taken_out = [] }) (shaped.starts setup (trace made) ok.roots ok.rooted refl)
 
     -- and so do all facts
     opening_parts : Parts shape cover setup made
@@ -242,6 +245,7 @@ module _ (setup : Setup) (ok : IsSetup setup) (first : Guard) where
       held = λ d g notes at there. subst (λ (z : Guard × List Note). HeldFits shape cover.places made.shapes [] z.0 z.1) (λ k. (a_guard d g at k, some_notes d notes there k)) first_held;
       known = λ d g notes roots at there kept. subst (λ (z : Guard × (List Note × List (List ℕ))). KnownFits shape setup (shape_input made) [] z.0 z.1.0 z.1.1) (λ k. (a_guard d g at k, (some_notes d notes there k, some_roots d roots kept k)))
           record { held = λ p r note e n. absurd (no_hold p r e); root = λ n l e. absurd (some-ne-none l (sym e)) };
+      locks = subst (λ (z : List ShapeCell × List (List LockedWord)). LocksFit shape z.0 z.1) (λ k. (sym shapes_are k, sym locks_are k)) (none_locked shape setup.roots (setup.records - setup.roots) setup.callers setup.first);
       shape = set_starts.0;
       told = set_starts.1;
       scheme = subst (cover.covered setup) (λ k. record {

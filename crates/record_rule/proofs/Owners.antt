@@ -125,7 +125,7 @@ module _ (shape : ShapeFacts) (cover : CoverFacts) (setup : Setup) (s : State (U
       let left : own_in value ≡ r.generation = own ∙ ap (λ (x : Share). x.generation) whole in
       let found : own_in (get_or h.words f 0) ≡ carried_by h.standing r.generation f = ap (λ (x : Share). own_in (get_or x.words f 0)) whole ∙ ap own_in (sym (known_part h.standing r.row f within))
       ∙ (u.places.sound (i - 1) r there).generations f below ∙ ap (λ (p : Place). carried p r.generation f) is in
-      not_held setup c (field_store v i f value h) refl (inr (inl refl)) (λ j g e. (
+      not_held setup c (field_store v i f value h) refl (inr (inl refl)) (λ j g e. inl (
         let same : i ≡ j = cc in omega arith,
         ⊎_elim (λ a. inl (left ∙ a ∙ sym found)) (λ a. inr (left ∙ a ∙ ap (λ (z : ℕ). z + 1) (sym found))) (carried_or_next h.standing r.generation f),
       ))
@@ -214,6 +214,7 @@ module _ (shape : ShapeFacts) (cover : CoverFacts) (setup : Setup) (s : State (U
           taken = u.parts.taken;
           held = u.parts.held;
           known = u.parts.known;
+          locks = u.parts.locks;
           shape = u.parts.shape;
           told = u.parts.told;
           scheme = law;

@@ -80,6 +80,7 @@ module _ (shape : ShapeFacts) (cover : CoverFacts) (setup : Setup) where
               taken = u.parts.taken;
               held = u.parts.held;
               known = u.parts.known;
+              locks = u.parts.locks;
               shape = u.parts.shape;
               told = u.parts.told;
               scheme = u.parts.scheme;

@@ -1,5 +1,5 @@
 -- An own record is linked behind a root or behind a record that its caller holds.
-use Rattle.std.proofs.Common.{◌≡◌, ◌≢◌, ℕ, ◌+◌, ◌-◌, ◌<◌, ◌≤◌, List, map, length, get_or, drop, set, true, cond, eqb, sym, refl, ap, ◌∙◌, subst, arith, Option, None, inr}
+use Rattle.std.proofs.Common.{◌≡◌, ◌≢◌, ℕ, ◌+◌, ◌-◌, ◌<◌, ◌≤◌, List, map, length, get_or, drop, set, true, cond, eqb, sym, refl, ap, ◌∙◌, subst, arith, Option, None}
 use Rattle.std.proofs.lemmas.List.{map-set, length-drop}
 use mathlib.Core.Option.{some}
 use lib.ListN.{get_elem?}
@@ -7,7 +7,9 @@ use Rattle.atomic_table.specs.Table.{State}
 use Rattle.atomic_table.proofs.Lists.{at_map, set_else}
 use Rattle.set_model.specs.declared.calls.Call.{Call}
 use Rattle.record_memory.specs.declared.steps.Word.TheVariants.{Field}
+use Rattle.record_memory.specs.declared.steps.StepKind.{StepKind}
 use Rattle.record_memory.specs.declared.steps.StepKind.TheVariants.{Exchange}
+use Rattle.record_memory.specs.declared.books.LockedWord.{LockedWord}
 use Rattle.record_memory.specs.declared.steps.Step.{Step}
 use Rattle.record_memory.specs.declared.books.Setup.{Setup}
 use Rattle.record_memory.specs.declared.books.View.{View}
@@ -23,17 +25,20 @@ use Rattle.row_words.specs.Packing.{link_in, own_in, IsLink}
 use Rattle.row_words.proofs.Packed.{own_in-packed_link}
 use Rattle.record_rule.specs.Records.{Record, known, IsSetup, IsLinkField}
 use Rattle.record_rule.specs.Inputs.{ShapeCell, hidden, linked, shape_cell, SchemeCell, unpublished, birth, scheme_cell, untaken, taken_cell, Outline, shape_input, trace, SchemeInput, scheme_input}
-use Rattle.record_rule.specs.Facts.{At, with_link, clean, Near, ShapeFacts, FitsNext, at_end, at_next, CoverFacts}
-use Rattle.record_rule.specs.Laws.{Keeps, ShapeLaws, CoverLaws, IsNewGeneration}
+use Rattle.record_rule.specs.Facts.{At, link_at, with_link, HasLock, clean, Near, ShapeFacts, FitsNext, at_end, at_next, CoverFacts}
+use Rattle.record_rule.specs.Laws.{marked_after, NodeStep, Keeps, ShapeLaws, CoverLaws, IsNewGeneration}
 use Rattle.record_rule.specs.Held.{HeldFits}
 use Rattle.record_rule.specs.Taken.{TakenFits}
 use Rattle.record_rule.specs.HandingOut.{HasOwn}
 use Rattle.record_rule.specs.World.{Rule}
 use Rattle.record_rule.specs.Kinds.{Lawful}
-use Rattle.record_rule.specs.Links.{Origin, index_of, generation_at, near_of, note_in, Holds, IsNextOf, at_end, at_place, Decides, node_step, own_update, link_word, PublishedLink, ToldPublish}
+use Rattle.record_rule.specs.Links.{Origin, index_of, generation_at, near_of, note_in, Holds, IsNextOf, at_end, at_place, Decides, node_step, own_update, link_word, PublishedBy, PublishedLink, ToldPublish}
+use Rattle.record_rule.specs.Locks.{LocksFit}
+use Rattle.record_rule.specs.LockedLinks.{IsUnlocked}
+use Rattle.record_rule.specs.Recorded.{LeavesLink}
 use Rattle.record_rule.proofs.Lists.{one_at, map_set_same}
 use Rattle.record_rule.proofs.Rebuilt.{starts_itself}
-use Rattle.record_rule.proofs.Quiet.{calm_after}
+use Rattle.record_rule.proofs.Quiet.{IsCalm, calm_after}
 use Rattle.record_rule.proofs.Owners.{record_of}
 use Rattle.record_rule.proofs.Safe.{safe}
 use Rattle.record_rule.proofs.HeldMoves.{held_hidden_linked, fits_node}
@@ -43,6 +48,8 @@ use Rattle.record_rule.proofs.Counts.{counts_moved, balances_same}
 use Rattle.record_rule.proofs.Moves.{IsSeenOrRoot, published_record, published_places, HasCells, published_cells}
 use Rattle.record_rule.proofs.Steps.{before, given, book, are_whole}
 use Rattle.record_rule.proofs.Nodes.{NodeOf, own_held, note_there, node_of, node_with, finds_held}
+use Rattle.record_rule.proofs.Locks.{locks_moved}
+use Rattle.record_rule.proofs.LockedNodes.{Locked, stay_locked}
 use Rattle.record_rule.proofs.Exchanges.{by_link, view_after, cell_after, new_word, leaves}
 
 module _ (shape : ShapeFacts) (cover : CoverFacts) (setup : Setup) (is_setup : IsSetup setup) (s : State (Unit {0}) View) (u : Rule shape cover setup s) (id : ℕ) (v : View) (at : get_elem? s.views id ≡ some v) (present : v.present ≡ true) where
@@ -64,7 +71,7 @@ module _ (shape : ShapeFacts) (cover : CoverFacts) (setup : Setup) (is_setup : I
       at_next r note x.index x.generation x.marked x.body x.fits
 
   -- the record is the caller's own, with this row
-  record IsOwn (own : RefParts) (row : List ℕ) (q : Record) : Type 0 where
+  pub record IsOwn (own : RefParts) (row : List ℕ) (q : Record) : Type 0 where
     there : At u.records (own.index - 1) q
     place : q.place ≡ Of v.own.caller Own
     generation : q.generation ≡ own.generation
@@ -72,7 +79,7 @@ module _ (shape : ShapeFacts) (cover : CoverFacts) (setup : Setup) (is_setup : I
     five : length (drop 3 row) ≡ 5
 
   -- what its caller knows of it says so
-  own_record : (own : RefParts) (row : List ℕ) → HasOwn v own row → (q : Record) × IsOwn own row q
+  pub own_record : (own : RefParts) (row : List ℕ) → HasOwn v own row → (q : Record) × IsOwn own row q
   own_record own row h = let x = record_of shape cover setup s u id v at present own.index h.share h.known in let q : Record = x.0 in (
     q,
     record {
@@ -107,7 +114,7 @@ module _ (shape : ShapeFacts) (cover : CoverFacts) (setup : Setup) (is_setup : I
         let none : IsSeenOrRoot (Of c Own) = subst IsSeenOrRoot (ap (λ (z : Record). z.place) same ∙ x.place) n.seen in none
 
     -- so it is still there
-    node_there : At records (index_of o - 1) n.node
+    pub node_there : At records (index_of o - 1) n.node
     node_there = set_else u.records k (index_of o - 1) q' other ∙ n.there
 
     -- how a set sees the records then
@@ -137,42 +144,60 @@ module _ (shape : ShapeFacts) (cover : CoverFacts) (setup : Setup) (is_setup : I
         subst (λ (l : List SchemeCell). cover.covered setup record i { cells = l }) (sym (map-set scheme_cell u.records k q'))
         (covering.links setup i k c q.generation (birth q) (safe shape cover setup u.records u.books u.taken_out u.updates m u.places u.parts) u.parts.scheme (at_map scheme_cell u.records k q x.there ∙ ap some was_cells.scheme_is))
 
+    -- which locks there are, once it is linked
+    locks_then : ((g : ℕ) → shape.lockable g ≡ true → 3 ≤ g → ¬ HasLock (link_at (drop 3 row) g)) → LocksFit shape (map shape_cell records) was.locks
+    locks_then free = subst (λ (l : List ShapeCell). LocksFit shape l was.locks) cells_are
+        (locks_moved shape (map shape_cell u.records) was.locks u.parts.locks k hidden (linked own.generation (drop 3 row) 0) was_hidden
+        (λ body e. let none : ⊥ = cc in absurd none) (λ body e. let same : drop 3 row ≡ body = cc in λ g may low flag. free g may low (subst (λ (b : List ℕ). HasLock (link_at b g)) (sym same) flag)))
+
     module _ (word f : ℕ) (is : word ≡ address setup.callers (Field (index_of o) f)) (low : 3 ≤ f) (high : f < 8) where
-      -- An exchange that finds the old link leaves one to the own record
-      publishes : ShapeLaws shape → CoverLaws cover → v.setup ≡ setup → Holds v o → (old : LinkParts) (next : Option Near) (call : Option Call) → IsRef own → IsNextOf v old.target next → Decides shape v call → shape.may_publish setup (near_of v o) f old (drop 3 row) next call
-          → link_in (get_or n.node.row f 0) ≡ old → own_in (link_word setup o old) ≡ generation_at setup o → (w : View) × Rule shape cover setup record { words = set s.words word (link_word setup o (clean own)); homes = s.homes; views = set s.views id w } × PublishedLink shape v o f old own call w
-      publishes shaped covering same holds old next call is_ref is_next dec may old_is own_is = let new : LinkParts = clean own in
-          let is_new : IsLink new = record { flags = omega arith; target = is_ref } in let t : Step = node_step v Exchange o f (link_word v.setup o old) (link_word v.setup o new) in
-          let mine : List (Option Share) = set v.own.mine k None in let w : View = view_after shape cover setup is_setup s u id v at present o n word f is low high same holds new is_new call dec t mine records u.taken_out in
+      -- A step that finds the old link leaves one to the own record, with these locks
+      pub publishes : ShapeLaws shape → CoverLaws cover → v.setup ≡ setup → Holds v o → (kind : StepKind) → IsCalm kind → (old : LinkParts) (next : Option Near) (call : Option Call) (is_new : IsLink (clean own)) → IsNextOf v old.target next → Decides shape v call
+          → shape.may_publish setup (near_of v o) f old (drop 3 row) next call → link_in (get_or n.node.row f 0) ≡ old → own_in (link_word setup o old) ≡ generation_at setup o → LeavesLink kind (link_word v.setup o old) (link_word v.setup o (clean own))
+          → (locks : List LockedWord) → (LocksFit shape (map shape_cell records) was.locks → Locked shape cover setup is_setup s u id v at present o n f low high records node_there (clean own) is_new locks)
+          → (w : View) × Rule shape cover setup record { words = set s.words word (link_word setup o (clean own)); homes = s.homes; views = set s.views id w } × PublishedBy shape v kind o f old own call locks w
+      publishes shaped covering same holds kind calm old next call is_new is_next dec may old_is own_is by locks locked = let new : LinkParts = clean own in let is_ref : IsRef own = is_new.target in
+          let t : Step = node_step v kind o f (link_word v.setup o old) (link_word v.setup o new) in let step : NodeStep = record { caller = c; number = length v.own.answered + 1; near = near_of v o; field = f; old = old; call = call } in
+          let mine : List (Option Share) = set v.own.mine k None in let w : View = view_after shape cover setup is_setup s u id v at present o n word f is low high same holds new is_new call dec t mine locks records u.taken_out in
           let node = node_with shape cover setup is_setup s u id v at present o n f old low old_is in
-          let kept = shaped.publishes setup (shape_input was) (trace was) record { caller = c; number = length v.own.answered + 1; near = near_of v o; field = f; old = old; call = call } own (drop 3 row) 0 next
+          let kept = shaped.publishes setup (shape_input was) (trace was) step own (drop 3 row) 0 next
           (given shape cover setup s u) node (fits_next old.target next is_next) was_hidden is_ref x.five
           own_new may in (
             w,
-            leaves shape cover setup is_setup s u id v at present o n word f is low high same holds new is_new call dec t mine records u.taken_out old old_is node_there
-                (finds_held shape cover setup is_setup s u id v at present o n Exchange f (link_word v.setup o old) (link_word v.setup o new) (subst (λ (z : Setup). own_in (link_word z o old) ≡ generation_at setup o) (sym same) own_is)
-                (subst (λ (z : Setup). own_in (link_word z o new) ≡ generation_at setup o) (sym same) (own_in-packed_link (generation_at setup o) new is_new)) (inr refl)) (λ e. cc) (starts_itself u.taken_out)
-                (published_places setup u.records u.books m c k v.own w.own q u.places (book shape cover setup s u id v at present) x.there x.place refl refl (calm_after v.own.drawing v.setup.records t tt))
+            leaves shape cover setup is_setup s u id v at present o n word f is low high same holds new is_new call dec t mine locks records u.taken_out old old_is node_there
+                (finds_held shape cover setup is_setup s u id v at present o n kind f (link_word v.setup o old) (link_word v.setup o new) (subst (λ (z : Setup). own_in (link_word z o old) ≡ generation_at setup o) (sym same) own_is)
+                (subst (λ (z : Setup). own_in (link_word z o new) ≡ generation_at setup o) (sym same) (own_in-packed_link (generation_at setup o) new is_new)) by) (λ e. cc) (starts_itself u.taken_out)
+                (published_places setup u.records u.books m c k v.own w.own q u.places (book shape cover setup s u id v at present) x.there x.place refl refl (calm_after v.own.drawing v.setup.records t calm))
                 (counts_moved setup.first u.records u.books c v.own w.own (book shape cover setup s u id v at present) u.counts k q q' x.there
                 (balances_same setup.first v.own.moves v.own.moves q q' refl refl refl refl refl (sym (ap drawn_as x.place)) (sym (ap retired_as x.place)) (sym (ap freed_as x.place)))) taken (held is_ref) (scheme covering)
                 (subst (λ (l : List ShapeCell). Keeps shape setup (shape_input was) (trace was) (near_of v o) f old node new (own_update v call)
-                record (shape_input was) { cells = set l (index_of o - 1) (cell_after shape cover setup is_setup s u id v at present o n word f is low high same holds new is_new call dec t mine records u.taken_out old) }) cells_are kept),
+                record (shape_input was) { cells = set l (index_of o - 1) (cell_after shape cover setup is_setup s u id v at present o n word f is low high same holds new is_new call dec t mine locks records u.taken_out old) }) cells_are kept)
+                (locked (locks_then (shaped.comes_unlocked setup step (drop 3 row) next may)) (marked_after n.node.marked old new (length u.updates))),
             record {
               updates = u.updates;
               taken_out = u.taken_out;
               whole = are_whole shape cover setup s u id v at present;
               body = with_link (drop 3 n.node.row) f n.node.generation new;
-              word = new_word shape cover setup is_setup s u id v at present o n word f is low high same holds new is_new call dec t mine records u.taken_out;
+              word = new_word shape cover setup is_setup s u id v at present o n word f is low high same holds new is_new call dec t mine locks records u.taken_out;
               view = refl;
             },
           )
 
+-- a link to a record is one
+pub clean_is : (r : RefParts) → IsRef r → IsLink (clean r)
+clean_is r is_ref = record { flags = omega arith; target = is_ref }
+
+-- and isn't locked
+pub clean_unlocked : (r : RefParts) → ¬ HasLock (clean r)
+clean_unlocked r e = let none : ⊥ = cc in none
+
 module _ (shape : ShapeFacts) (cover : CoverFacts) (shaped : ShapeLaws shape) (covering : CoverLaws cover) (setup : Setup) (is_setup : IsSetup setup) where
-  -- Where the set allows it by what the caller knows, an own record may be linked in front of the next node
+  -- Where the set allows it by what the caller knows, an own record may be linked in front of the next node, where the node's link isn't locked
   pub publishes_link : (id word f : ℕ) (v : View) (o : Origin) (old : LinkParts) (own : RefParts) (row : List ℕ) (next : Option Near) (call : Option Call) → v.present ≡ true → v.setup ≡ setup → word ≡ address setup.callers (Field (index_of o) f) → 3 ≤ f → f < 8 → IsLinkField f
-      → Holds v o → IsLink old → IsRef own → HasOwn v own row → IsNextOf v old.target next → Decides shape v call → shape.may_publish setup (near_of v o) f old (drop 3 row) next call
+      → Holds v o → IsLink old → IsUnlocked shape f old → IsRef own → HasOwn v own row → IsNextOf v old.target next → Decides shape v call → shape.may_publish setup (near_of v o) f old (drop 3 row) next call
       → Lawful (Rule shape cover setup) id v word (λ n. cond (eqb n (link_word setup o old)) (link_word setup o (clean own)) n) (λ n w. ToldPublish shape v o f old own call n w)
-  publishes_link id word f v o old own row next call present same is low high field holds is_old is_ref has is_next dec may s u at = let n = node_of shape cover setup is_setup s u id v at present o holds in
-      let q = own_record shape cover setup is_setup s u id v at present own row has in
+  publishes_link id word f v o old own row next call present same is low high field holds is_old clear is_ref has is_next dec may s u at = let n = node_of shape cover setup is_setup s u id v at present o holds in
+      let q = own_record shape cover setup is_setup s u id v at present own row has in let is_new = clean_is own is_ref in
       let x = by_link shape cover setup is_setup s u id v at present o n word f is low high field same old (clean own) is_old (PublishedLink shape v o f old own call)
-      (publishes shape cover setup is_setup s u id v at present o n own row q.0 q.1 word f is low high shaped covering same holds old next call is_ref is_next dec may) in (x.0, x.1, record { made = x.2; refused = x.3 })
+      (λ old_is own_is. publishes shape cover setup is_setup s u id v at present o n own row q.0 q.1 word f is low high shaped covering same holds Exchange tt old next call is_new is_next dec may old_is own_is tt v.own.locks
+      (λ h. stay_locked shape cover setup is_setup s u id v at present o n f low high _ (node_there shape cover setup is_setup s u id v at present o n own row q.0 q.1) (clean own) is_new h old old_is clear (λ _. clean_unlocked own))) in (x.0, x.1, record { made = x.2; refused = x.3 })

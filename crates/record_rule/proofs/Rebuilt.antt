@@ -176,6 +176,7 @@ not_held setup c t none on leaves = record {
   own = λ r e. let no_such : None ≡ Some r = sym none ∙ e in
       let wrong : ⊥ = cc in absurd wrong;
   left = λ r e. let no_such : None ≡ Some r = sym none ∙ e in let wrong : ⊥ = cc in absurd wrong;
+  by = λ r e. let no_such : None ≡ Some r = sym none ∙ e in let wrong : ⊥ = cc in absurd wrong;
   unheld = λ _. leaves;
 }
 

@@ -40,7 +40,7 @@ module _ (shape : ShapeFacts) (cover : CoverFacts) (setup : Setup) (s : State (U
   -- what the laws of a set may use
   pub given : Given shape setup (shape_input before) (trace before)
   given = (
-    out_cells_fit setup shape u.records u.taken_out before.locks u.parts.taken,
+    out_cells_fit setup shape u.records u.taken_out u.parts.taken,
     (u.parts.shape, u.parts.told),
     record {
       taken_out = λ c st at. let g = map_at start_of before.guards c st at in let b = map_at guard_of u.books c g.0 g.1 in let l = (u.parts.held c g.0 b.0.notes g.1 (at_map notes_of u.books c b.0 b.1)).start in let e = ap (λ (z : Start). z.taken_out) g.2 in omega arith;

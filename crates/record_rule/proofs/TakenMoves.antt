@@ -4,7 +4,6 @@ use native.Mathlib.Decide.{ℕ_discrete}
 use mathlib.Core.Option.{some}
 use lib.ListN.{get_elem?}
 use Rattle.atomic_table.proofs.Lists.{at_set, at_map, at_longer, at_last, set_here, set_else}
-use Rattle.record_memory.specs.declared.steps.Word.{Word}
 use Rattle.record_memory.specs.declared.books.Setup.{Setup}
 use Rattle.record_memory.specs.declared.books.Standing.{Standing}
 use Rattle.record_memory.specs.declared.books.Standing.TheVariants.{TakenOut, Limbo}
@@ -53,9 +52,9 @@ module _ (setup : Setup) where
   new_generation s takings taken_out own fits at = older_taken takings taken_out own fits at
 
   -- what was taken out stands in the list at its number, and once
-  pub out_cells_fit : (s : ShapeFacts) (records : List Record) (taken_out : List RefParts) (locks : List (List Word)) → TakenFits setup (map taken_cell records) taken_out
-      → OutCellsFit s (record { cells = map shape_cell records; taken_out = taken_out; locks = locks })
-  out_cells_fit s records taken_out locks fits = record {
+  pub out_cells_fit : (s : ShapeFacts) (records : List Record) (taken_out : List RefParts) → TakenFits setup (map taken_cell records) taken_out
+      → OutCellsFit s (record { cells = map shape_cell records; taken_out = taken_out })
+  out_cells_fit s records taken_out fits = record {
     numbered = λ i generation m n body at. let x = map_at shape_cell records i (out generation body m n) at in fits.own i generation n (at_map taken_cell records i x.0 x.1 ∙ ap some (out_at generation m n body x.0.place x.0 x.2));
     once = fits.once;
     indexed = λ n r e. (fits.each n r e).0;

@@ -171,6 +171,7 @@ module _ (shape : ShapeFacts) (cover : CoverFacts) (setup : Setup) (s : State (U
         taken = taken_anew setup was.takings u.taken_out i node.generation node.taken_number u.parts.taken (at_map taken_cell u.records i node there ∙ ap some (ap (λ (p : Place). taken_at p node) is));
         held = u.parts.held;
         known = u.parts.known;
+        locks = u.parts.locks;
         shape = u.parts.shape;
         told = u.parts.told;
         scheme = u.parts.scheme;

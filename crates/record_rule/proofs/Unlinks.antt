@@ -6,7 +6,9 @@ use lib.ListN.{get_elem?}
 use Rattle.atomic_table.specs.Table.{State}
 use Rattle.atomic_table.proofs.Lists.{at_map, set_else}
 use Rattle.record_memory.specs.declared.steps.Word.TheVariants.{Field}
+use Rattle.record_memory.specs.declared.steps.StepKind.{StepKind}
 use Rattle.record_memory.specs.declared.steps.StepKind.TheVariants.{Exchange}
+use Rattle.record_memory.specs.declared.books.LockedWord.{LockedWord}
 use Rattle.record_memory.specs.declared.steps.Step.{Step}
 use Rattle.record_memory.specs.declared.books.Setup.{Setup}
 use Rattle.record_memory.specs.declared.books.View.{View}
@@ -23,16 +25,19 @@ use Rattle.row_words.specs.Packing.{link_in, own_in, IsLink}
 use Rattle.row_words.proofs.Packed.{own_in-packed_link}
 use Rattle.record_rule.specs.Records.{share, share_at, Record, IsSetup, IsLinkField}
 use Rattle.record_rule.specs.Inputs.{ShapeCell, linked, out, shape_cell, SchemeCell, reachable, birth, scheme_cell, TakenCell, untaken, taken_cell, Outline, shape_input, trace, scheme_input}
-use Rattle.record_rule.specs.Facts.{At, with_link, clean, Near, ShapeFacts, FitsNext, CoverFacts}
+use Rattle.record_rule.specs.Facts.{At, link_at, with_link, HasLock, clean, Near, ShapeFacts, FitsNext, CoverFacts}
 use Rattle.record_rule.specs.Taken.{TakenFits}
 use Rattle.record_rule.specs.Held.{HeldFits}
-use Rattle.record_rule.specs.Laws.{NodeStep, LeadsTo, NodeIs, Keeps, ShapeLaws, CoverLaws}
+use Rattle.record_rule.specs.Laws.{marked_after, NodeStep, LeadsTo, NodeIs, Keeps, ShapeLaws, CoverLaws}
 use Rattle.record_rule.specs.World.{Rule}
 use Rattle.record_rule.specs.Kinds.{Lawful}
-use Rattle.record_rule.specs.Links.{Origin, from_place, index_of, generation_at, note_in, near_of, Holds, IsNextOf, node_step, link_word, UnlinkedRecord, ToldUnlink}
+use Rattle.record_rule.specs.Links.{Origin, from_place, index_of, generation_at, note_in, near_of, Holds, IsNextOf, node_step, link_word, UnlinkedBy, UnlinkedRecord, ToldUnlink}
+use Rattle.record_rule.specs.Locks.{LocksFit}
+use Rattle.record_rule.specs.LockedLinks.{IsUnlocked}
+use Rattle.record_rule.specs.Recorded.{LeavesLink}
 use Rattle.record_rule.proofs.Lists.{below_at, one_at, get_at}
 use Rattle.record_rule.proofs.Rebuilt.{starts_more}
-use Rattle.record_rule.proofs.Quiet.{calm_after}
+use Rattle.record_rule.proofs.Quiet.{IsCalm, calm_after}
 use Rattle.record_rule.proofs.Safe.{linked_place, safe}
 use Rattle.record_rule.proofs.HeldMoves.{held_out}
 use Rattle.record_rule.proofs.TakenMoves.{one_more_taken}
@@ -41,12 +46,14 @@ use Rattle.record_rule.proofs.Counts.{counts_moved, balances_same}
 use Rattle.record_rule.proofs.Moves.{taken_record, taken_places, HasCells, taken_cells}
 use Rattle.record_rule.proofs.Steps.{before, given, book, are_whole}
 use Rattle.record_rule.proofs.Nodes.{NodeOf, node_of, node_with, finds_held}
-use Rattle.record_rule.proofs.Publishes.{fits_next}
+use Rattle.record_rule.proofs.Publishes.{fits_next, clean_is, clean_unlocked}
+use Rattle.record_rule.proofs.Locks.{locks_moved}
+use Rattle.record_rule.proofs.LockedNodes.{Locked, stay_locked}
 use Rattle.record_rule.proofs.Exchanges.{by_link, view_after, cell_after, new_word, leaves}
 
 module _ (shape : ShapeFacts) (cover : CoverFacts) (shaped : ShapeLaws shape) (setup : Setup) (is_setup : IsSetup setup) (s : State (Unit {0}) View) (u : Rule shape cover setup s) (id : ℕ) (v : View) (at : get_elem? s.views id ≡ some v) (present : v.present ≡ true)
-    (o : Origin) (n : NodeOf shape cover setup is_setup s u id v at present o) (f : ℕ) (low : 3 ≤ f) (p : ℕ) (gone : RefParts) (new : LinkParts) (q : NodeOf shape cover setup is_setup s u id v at present (from_place p gone))
-    (next : Option Near) (behind : (next ≡ None) ⊎ IsNextOf v new.target next) (may : shape.may_unlink setup (near_of v o) f (clean gone) (near_of v (from_place p gone)) new next None) (old_is : link_in (get_or n.node.row f 0) ≡ clean gone) where
+    (o : Origin) (n : NodeOf shape cover setup is_setup s u id v at present o) (f : ℕ) (low : 3 ≤ f) (p : ℕ) (old : LinkParts) (gone : RefParts) (leads : old.target ≡ Some gone) (new : LinkParts) (q : NodeOf shape cover setup is_setup s u id v at present (from_place p gone))
+    (next : Option Near) (behind : (next ≡ None) ⊎ IsNextOf v new.target next) (may : shape.may_unlink setup (near_of v o) f old (near_of v (from_place p gone)) new next None) (old_is : link_in (get_or n.node.row f 0) ≡ old) where
   abbrev m : Memory
   m = memory setup.callers setup.records s.words
 
@@ -68,16 +75,16 @@ module _ (shape : ShapeFacts) (cover : CoverFacts) (shaped : ShapeLaws shape) (s
   count = length u.taken_out
 
   -- its predecessor, as the laws of a set take it
-  abbrev pred : NodeIs shape was.shapes (near_of v o) f (clean gone)
-  pred = node_with shape cover setup is_setup s u id v at present o n f (clean gone) low old_is
+  abbrev pred : NodeIs shape was.shapes (near_of v o) f old
+  pred = node_with shape cover setup is_setup s u id v at present o n f old low old_is
 
   -- the step, as they take it
   abbrev step : NodeStep
-  step = record { caller = c; number = length v.own.answered + 1; near = near_of v o; field = f; old = clean gone; call = None }
+  step = record { caller = c; number = length v.own.answered + 1; near = near_of v o; field = f; old = old; call = None }
 
   -- the record is linked, and another one
   gone_law : LeadsTo was.shapes gone × (index_of o - 1 ≢ k)
-  gone_law = shaped.gone_linked setup (shape_input was) step gone (note_in v.own.notes p) new next u.parts.shape pred refl may
+  gone_law = shaped.gone_linked setup (shape_input was) step gone (note_in v.own.notes p) new next u.parts.shape pred leads may
 
   -- what the caller knows of the node behind it fits
   next_fits : (next ≡ None) ⊎ FitsNext shape was.shapes new.target next
@@ -102,7 +109,7 @@ module _ (shape : ShapeFacts) (cover : CoverFacts) (shaped : ShapeLaws shape) (s
   taken_out = u.taken_out ++ gone ∷ []
 
   -- the node is still there
-  node_there : At records (index_of o - 1) n.node
+  pub node_there : At records (index_of o - 1) n.node
   node_there = set_else u.records k (index_of o - 1) r' gone_law.1 ∙ n.there
 
   -- how the facts see the record before that
@@ -129,10 +136,20 @@ module _ (shape : ShapeFacts) (cover : CoverFacts) (shaped : ShapeLaws shape) (s
   scheme covering = subst (λ (z : List SchemeCell × RefParts). cover.covered setup (record (scheme_input was) { cells = z.0; taken_out = u.taken_out ++ z.1 ∷ [] })) (λ j. (sym (map-set scheme_cell u.records k r') j, taken_is j))
       (covering.takes setup (scheme_input was) k c r.generation (birth r) (safe shape cover setup u.records u.books u.taken_out u.updates m u.places u.parts) u.parts.scheme (at_map scheme_cell u.records k r q.there ∙ ap some was_cells.scheme_is))
 
-  module _ (word : ℕ) (is : word ≡ address setup.callers (Field (index_of o) f)) (high : f < 8) (covering : CoverLaws cover) (same : v.setup ≡ setup) (holds : Holds v o) (is_link : IsLink new) where
+  -- no link of it is locked, so there are as many locks
+  locks_then : LocksFit shape (map shape_cell records) was.locks
+  locks_then = subst (λ (l : List ShapeCell). LocksFit shape l was.locks) cells_are
+      (locks_moved shape was.shapes was.locks u.parts.locks k (linked r.generation (drop 3 r.row) r.marked) (out r.generation (drop 3 r.row) r.marked count) (at_map shape_cell u.records k r q.there ∙ ap some was_cells.shape_is)
+      (λ body e. let same : drop 3 r.row ≡ body = cc in free body same) (λ body e. let same : drop 3 r.row ≡ body = cc in free body same))
+    where
+      free : (body : List ℕ) → drop 3 r.row ≡ body → (g : ℕ) → shape.lockable g ≡ true → 3 ≤ g → ¬ HasLock (link_at body g)
+      free body same g lockable low flag = shaped.goes_unlocked setup (shape_input was) step gone (note_in v.own.notes p) new next k r.generation r.marked (drop 3 r.row) u.parts.shape q.fits may g lockable low (subst (λ (b : List ℕ). HasLock (link_at b g)) (sym same) flag)
+
+  module _ (word : ℕ) (is : word ≡ address setup.callers (Field (index_of o) f)) (high : f < 8) (covering : CoverLaws cover) (same : v.setup ≡ setup) (holds : Holds v o) (is_link : IsLink new)
+      (kind : StepKind) (calm : IsCalm kind) (locks : List LockedWord) (locked : LocksFit shape (map shape_cell records) was.locks → Locked shape cover setup is_setup s u id v at present o n f low high records node_there new is_link locks) where
     -- the step
     abbrev t : Step
-    t = node_step v Exchange o f (link_word v.setup o (clean gone)) (link_word v.setup o new)
+    t = node_step v kind o f (link_word v.setup o old) (link_word v.setup o new)
 
     -- what its caller knows of the records then
     abbrev mine : List (Option Share)
@@ -140,32 +157,34 @@ module _ (shape : ShapeFacts) (cover : CoverFacts) (shaped : ShapeLaws shape) (s
 
     -- what the pass knows then
     abbrev w : View
-    w = view_after shape cover setup is_setup s u id v at present o n word f is low high same holds new is_link None tt t mine records taken_out
+    w = view_after shape cover setup is_setup s u id v at present o n word f is low high same holds new is_link None tt t mine locks records taken_out
 
     -- what the set promises of the step
-    kept : Keeps shape setup (shape_input was) (trace was) (near_of v o) f (clean gone) pred new None
-        record { cells = set (map shape_cell records) (index_of o - 1) (cell_after shape cover setup is_setup s u id v at present o n word f is low high same holds new is_link None tt t mine records taken_out (clean gone)); taken_out = taken_out; locks = was.locks }
-    kept = subst (λ (l : List ShapeCell). Keeps shape setup (shape_input was) (trace was) (near_of v o) f (clean gone) pred new None
-        record { cells = set l (index_of o - 1) (cell_after shape cover setup is_setup s u id v at present o n word f is low high same holds new is_link None tt t mine records taken_out (clean gone)); taken_out = taken_out; locks = was.locks }) cells_are
-        (shaped.unlinks setup (shape_input was) (trace was) step gone (note_in v.own.notes p) new next k r.generation r.marked (drop 3 r.row) (given shape cover setup s u) pred refl q.fits next_fits is_link may)
+    kept : Keeps shape setup (shape_input was) (trace was) (near_of v o) f old pred new None
+        record { cells = set (map shape_cell records) (index_of o - 1) (cell_after shape cover setup is_setup s u id v at present o n word f is low high same holds new is_link None tt t mine locks records taken_out old); taken_out = taken_out }
+    kept = subst (λ (l : List ShapeCell). Keeps shape setup (shape_input was) (trace was) (near_of v o) f old pred new None
+        record { cells = set l (index_of o - 1) (cell_after shape cover setup is_setup s u id v at present o n word f is low high same holds new is_link None tt t mine locks records taken_out old); taken_out = taken_out }) cells_are
+        (shaped.unlinks setup (shape_input was) (trace was) step gone (note_in v.own.notes p) new next k r.generation r.marked (drop 3 r.row) (given shape cover setup s u) pred leads q.fits next_fits is_link may)
 
-    -- An exchange that finds the link to the record leaves the new one
-    unlinks : own_in (link_word setup o (clean gone)) ≡ generation_at setup o → (x : View) × Rule shape cover setup record { words = set s.words word (link_word setup o new); homes = s.homes; views = set s.views id x } × UnlinkedRecord shape v o f gone new x
-    unlinks own_is = (
+    -- A step that finds the link to the record leaves the new one, with these locks
+    pub unlinks : own_in (link_word setup o old) ≡ generation_at setup o → LeavesLink kind (link_word v.setup o old) (link_word v.setup o new)
+        → (x : View) × Rule shape cover setup record { words = set s.words word (link_word setup o new); homes = s.homes; views = set s.views id x } × UnlinkedBy shape v kind o f old gone new locks x
+    unlinks own_is by = (
       w,
-      leaves shape cover setup is_setup s u id v at present o n word f is low high same holds new is_link None tt t mine records taken_out (clean gone) old_is node_there
-          (finds_held shape cover setup is_setup s u id v at present o n Exchange f (link_word v.setup o (clean gone)) (link_word v.setup o new) (subst (λ (z : Setup). own_in (link_word z o (clean gone)) ≡ generation_at setup o) (sym same) own_is)
-          (subst (λ (z : Setup). own_in (link_word z o new) ≡ generation_at setup o) (sym same) (own_in-packed_link (generation_at setup o) new is_link)) (inr refl)) (λ e. cc) (starts_more u.taken_out (gone ∷ []))
+      leaves shape cover setup is_setup s u id v at present o n word f is low high same holds new is_link None tt t mine locks records taken_out old old_is node_there
+          (finds_held shape cover setup is_setup s u id v at present o n kind f (link_word v.setup o old) (link_word v.setup o new) (subst (λ (z : Setup). own_in (link_word z o old) ≡ generation_at setup o) (sym same) own_is)
+          (subst (λ (z : Setup). own_in (link_word z o new) ≡ generation_at setup o) (sym same) (own_in-packed_link (generation_at setup o) new is_link)) by) (λ e. cc) (starts_more u.taken_out (gone ∷ []))
           (taken_places setup u.records u.books m c k count v.own w.own r u.places (book shape cover setup s u id v at present) q.there gone_place refl
-          (ap (λ (e : ℕ). set v.own.mine k (Some (record { standing = TakenOut; generation = e; taken_number = count; words = take 3 r.row }))) (sym q.generation)) (calm_after v.own.drawing v.setup.records t tt))
+          (ap (λ (e : ℕ). set v.own.mine k (Some (record { standing = TakenOut; generation = e; taken_number = count; words = take 3 r.row }))) (sym q.generation)) (calm_after v.own.drawing v.setup.records t calm))
           (counts_moved setup.first u.records u.books c v.own w.own (book shape cover setup s u id v at present) u.counts k r r' q.there
-          (balances_same setup.first v.own.moves v.own.moves r r' refl refl refl refl refl (sym (ap drawn_as gone_place)) (sym (ap retired_as gone_place)) (sym (ap freed_as gone_place)))) taken held (scheme covering) kept,
+          (balances_same setup.first v.own.moves v.own.moves r r' refl refl refl refl refl (sym (ap drawn_as gone_place)) (sym (ap retired_as gone_place)) (sym (ap freed_as gone_place)))) taken held (scheme covering) kept
+          (locked locks_then (marked_after n.node.marked old new (length u.updates))),
       record {
         updates = u.updates;
         taken_out = u.taken_out;
         whole = are_whole shape cover setup s u id v at present;
         body = with_link (drop 3 n.node.row) f n.node.generation new;
-        word = new_word shape cover setup is_setup s u id v at present o n word f is low high same holds new is_link None tt t mine records taken_out;
+        word = new_word shape cover setup is_setup s u id v at present o n word f is low high same holds new is_link None tt t mine locks records taken_out;
         words = take 3 r.row;
         three = let e = (u.places.sound k r q.there).eight in let l = length-take 3 r.row in omega arith;
         within = let e = below_at u.records k r q.there in let m = u.places.many in let z = ap (λ (y : Setup). y.records) same in let i = q.some_index in omega arith;
@@ -182,5 +201,9 @@ module _ (shape : ShapeFacts) (cover : CoverFacts) (shaped : ShapeLaws shape) (c
       → Holds v o → Holds v (from_place p gone) → IsRef gone → IsLink new → (next ≡ None) ⊎ IsNextOf v new.target next → shape.may_unlink setup (near_of v o) f (clean gone) (near_of v (from_place p gone)) new next None
       → Lawful (Rule shape cover setup) id v word (λ n. cond (eqb n (link_word setup o (clean gone))) (link_word setup o new) n) (λ n w. ToldUnlink shape v o f gone new n w)
   unlinks_record id word f p v o gone new next present same is low high field holds hold gone_ref is_link behind may s u at = let n = node_of shape cover setup is_setup s u id v at present o holds in
-      let x = by_link shape cover setup is_setup s u id v at present o n word f is low high field same (clean gone) new (record { flags = omega arith; target = gone_ref }) (UnlinkedRecord shape v o f gone new)
-      (λ old_is. unlinks shape cover shaped setup is_setup s u id v at present o n f low p gone new (node_of shape cover setup is_setup s u id v at present (from_place p gone) hold) next behind may old_is word is high covering same holds is_link) in (x.0, x.1, record { made = x.2; refused = x.3 })
+      let q = node_of shape cover setup is_setup s u id v at present (from_place p gone) hold in
+      let plain : IsUnlocked shape f new = shaped.leaves_unlocked setup record { caller = v.own.caller; number = length v.own.answered + 1; near = near_of v o; field = f; old = clean gone; call = None } gone (note_in v.own.notes p) new next may in
+      let x = by_link shape cover setup is_setup s u id v at present o n word f is low high field same (clean gone) new (clean_is gone gone_ref) (UnlinkedRecord shape v o f gone new)
+      (λ old_is own_is. unlinks shape cover shaped setup is_setup s u id v at present o n f low p (clean gone) gone refl new q next behind may old_is word is high covering same holds is_link Exchange tt v.own.locks
+      (λ h. stay_locked shape cover setup is_setup s u id v at present o n f low high _ (node_there shape cover shaped setup is_setup s u id v at present o n f low p (clean gone) gone refl new q next behind may old_is) new is_link h (clean gone) old_is
+      (λ _. clean_unlocked gone) plain) own_is tt) in (x.0, x.1, record { made = x.2; refused = x.3 })

@@ -7,10 +7,11 @@ use Rattle.record_memory.specs.declared.books.Book.{Book}
 use Rattle.record_memory.specs.Memory.{memory, size}
 use Rattle.row_words.specs.Refs.{RefParts}
 use Rattle.record_rule.specs.Records.{IsSetup, Record}
-use Rattle.record_rule.specs.Inputs.{taken_cell, answered_of, offer_of, Outline, outline, shape_input, scheme_input, trace}
+use Rattle.record_rule.specs.Inputs.{shape_cell, taken_cell, locks_of, answered_of, offer_of, Outline, outline, shape_input, scheme_input, trace}
 use Rattle.record_rule.specs.Facts.{At, ShapeFacts, CoverFacts}
 use Rattle.record_rule.specs.Walks.{read_for, rows_ground}
 use Rattle.record_rule.specs.Taken.{TakenFits}
+use Rattle.record_rule.specs.Locks.{LocksFit}
 use Rattle.record_rule.specs.Recorded.{StepFits, FoundWithin}
 use Rattle.record_rule.specs.Histories.{HistoryFits, IsWaiting}
 use Rattle.record_rule.specs.World.{Places}
@@ -61,6 +62,8 @@ pub record ClosedFits (s : ShapeFacts) (c : CoverFacts) (setup : Setup) (words :
   pub whole : IsWhole s setup books history waiting
   -- what a walk over the words reads is what the set's machine leaves behind the history
   pub read : read_for setup.set (rows_ground s setup.roots (memory setup.callers setup.records words).rows) (history ++ waiting)
+  -- a link is locked just where one caller has it so; that none does is the callers' to see to
+  pub locked : LocksFit s (map shape_cell records) (map locks_of books)
   -- the facts of the set and of the reclaimer
   pub formed : s.formed setup (shape_input (outline_left setup words books records taken_out (history ++ waiting)))
   pub told : s.told setup (shape_input (outline_left setup words books records taken_out (history ++ waiting))) (trace (outline_left setup words books records taken_out (history ++ waiting)))

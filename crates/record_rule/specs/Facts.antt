@@ -1,5 +1,5 @@
 -- What a set and a reclaimer say of the one table: two records of relations.
-use Rattle.std.specs.Prelude.{◌≡◌, ℕ, ◌+◌, ◌-◌, ◌%◌, List, Bool, true, false, Option, Some, None, slice_index_or, slice_set}
+use Rattle.std.specs.Prelude.{◌≡◌, ℕ, ◌+◌, ◌-◌, ◌/◌, ◌%◌, List, Bool, true, false, Option, Some, None, slice_index_or, slice_set, ◌==◌}
 use mathlib.Core.Option.{some}
 use lib.ListN.{get_elem?}
 use Rattle.set_model.specs.declared.calls.Call.{Call}
@@ -38,6 +38,16 @@ mark_bit l = l.flags % 2
 
 abbrev pub HasMark : LinkParts → Type 0
 HasMark l = mark_bit l ≡ 1
+
+-- flag 2 says that one caller has locked the link
+abbrev pub lock_bit : LinkParts → ℕ
+lock_bit l = l.flags / 2 % 2
+
+abbrev pub has_lock : LinkParts → Bool
+has_lock l = lock_bit l == 1
+
+abbrev pub HasLock : LinkParts → Type 0
+HasLock l = lock_bit l ≡ 1
 
 -- a link without flags
 abbrev pub clean : RefParts → LinkParts
@@ -96,7 +106,7 @@ pub record ShapeFacts : Type 1 where
   -- the same for taking the next node out, in front of the node behind it, where the caller knows that
   pub may_unlink : Setup → Near → ℕ → LinkParts → Near → LinkParts → Option Near → Option Call → Type 0
   -- which fields of a node may be locked, and which links a caller may follow though their node is marked, by what it keeps of the node
-  pub lockable : ℕ → Type 0
+  pub lockable : ℕ → Bool
   pub may_hold_frozen : Setup → Near → List ℕ → ℕ → Type 0
   -- what a load of a link shows of the updates that took effect by then
   pub shown : Setup → Sight → List Update → Type 0

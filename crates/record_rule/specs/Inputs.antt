@@ -10,7 +10,7 @@ use Rattle.record_memory.specs.declared.books.Standing.{Standing}
 use Rattle.record_memory.specs.declared.books.Standing.TheVariants.{Handing, Own, Spare, TakenOut, Limbo, Free, Spent}
 use Rattle.record_memory.specs.declared.books.Place.{Place}
 use Rattle.record_memory.specs.declared.books.Place.TheVariants.{Undrawn, Root, Linked, Shelved, Of}
-use Rattle.record_memory.specs.declared.steps.Word.{Word}
+use Rattle.record_memory.specs.declared.books.LockedWord.{LockedWord}
 use Rattle.record_memory.specs.Memory.{Memory}
 use Rattle.row_words.specs.Refs.{RefParts}
 use Rattle.row_words.specs.Packing.{number_in}
@@ -123,7 +123,7 @@ pub record Outline : Type 0 where
   pub guards : List Guard
   pub notes : List (List Note)
   pub roots : List (List (List ℕ))
-  pub locks : List (List Word)
+  pub locks : List (List LockedWord)
   pub answered : List (List Answered)
   -- and the call that it lets others decide
   pub offers : List (Option Offer)
@@ -134,7 +134,7 @@ guard_of b = b.guard
 abbrev pub notes_of : Book → List Note
 notes_of b = b.notes
 
-abbrev pub locks_of : Book → List Word
+abbrev pub locks_of : Book → List LockedWord
 locks_of b = b.locks
 
 abbrev pub answered_of : Book → List Answered
@@ -167,10 +167,9 @@ outline m records books taken_out updates = record {
 pub record ShapeInput : Type 0 where
   pub cells : List ShapeCell
   pub taken_out : List RefParts
-  pub locks : List (List Word)
 
 abbrev pub shape_input : Outline → ShapeInput
-shape_input o = record { cells = o.shapes; taken_out = o.taken_out; locks = o.locks }
+shape_input o = record { cells = o.shapes; taken_out = o.taken_out }
 
 -- how many records were taken out and how many updates took effect when a guard started
 pub record Start : Type 0 where

@@ -12,14 +12,14 @@ use Rattle.row_words.specs.Packing.{IsLink, packed_key, packed_number}
 use Rattle.record_rule.specs.Inputs.{ShapeCell, hidden, root, linked, out, ShapeInput, Start, start_of, Trace, SchemeCell, unseen, rooted, reachable, unpublished, unretired, limbo, SchemeInput}
 use Rattle.record_rule.specs.Guards.{started_at}
 use Rattle.record_rule.specs.Walks.{LeadsOn, IsOnWalk, cells_ground, HasRoots, read_for}
-use Rattle.record_rule.specs.Facts.{At, link_at, with_link, mark_bit, HasMark, clean, Near, at_root, at_held, Known, of_held, known_near, ShapeFacts, Stands, FitsNear, FitsNext, IsLegalUpdate, update_for, Moment, Reach, LimboRecord, CoverFacts}
+use Rattle.record_rule.specs.Facts.{At, link_at, with_link, mark_bit, HasMark, HasLock, clean, Near, at_root, at_held, Known, of_held, known_near, ShapeFacts, Stands, FitsNear, FitsNext, IsLegalUpdate, update_for, Moment, Reach, LimboRecord, CoverFacts}
 
 abbrev pub root_body : ℕ → List ℕ
 root_body first = packed_number first 0 ∷ packed_key first 1 0 ∷ replicate 3 (packed_number first 0)
 
 -- a new table: blank roots, and records that were never handed out
 abbrev pub opening_shape : Setup → ShapeInput
-opening_shape setup = record { cells = replicate setup.roots (root setup.first (root_body setup.first) 0) ++ replicate (setup.records - setup.roots) hidden; taken_out = []; locks = replicate setup.callers [] }
+opening_shape setup = record { cells = replicate setup.roots (root setup.first (root_body setup.first) 0) ++ replicate (setup.records - setup.roots) hidden; taken_out = [] }
 
 -- the record that a reference names is linked at its generation
 abbrev pub LeadsTo : List ShapeCell → RefParts → Type 0
@@ -141,14 +141,23 @@ module _ (s : ShapeFacts) where
     -- An exchange that the set allows by what its caller knows keeps the facts, and decides as the machine does
     pub exchanges : (setup : Setup) (x : ShapeInput) (h : Trace) (t : NodeStep) (new : LinkParts) → Given setup x h → (n : NodeIs x.cells t.near t.field t.old) → IsLink new → s.may_exchange setup t.near t.field t.old new t.call
         → Keeps setup x h t.near t.field t.old n new (update_by t) (record x { cells = slice_set x.cells n.index (relinked x.cells t.near t.field t.old n new (length h.updates)) })
+    -- A link is locked only while its record is a root or linked
+    pub locks : (setup : Setup) (x : ShapeInput) (t : NodeStep) (new : LinkParts) → s.formed setup x → (n : NodeIs x.cells t.near t.field t.old) → s.may_exchange setup t.near t.field t.old new t.call → s.lockable t.field ≡ true → ¬ HasLock t.old → HasLock new
+        → (generation m k : ℕ) (body : List ℕ) → n.cell ≡ out generation body m k → ⊥
     -- An own record with this body may stand between the node and its next
     pub publishes : (setup : Setup) (x : ShapeInput) (h : Trace) (t : NodeStep) (own : RefParts) (body : List ℕ) (marked : ℕ) (next : Option Near) → Given setup x h → (n : NodeIs x.cells t.near t.field t.old)
         → FitsNext s x.cells t.old.target next → At x.cells (own.index - 1) hidden → IsRef own → length body ≡ 5 → IsNewGeneration x.taken_out own → s.may_publish setup t.near t.field t.old body next t.call
         → Keeps setup x h t.near t.field t.old n (clean own) (update_by t)
         (record x { cells = slice_set (slice_set x.cells (own.index - 1) (linked own.generation body marked)) n.index (relinked x.cells t.near t.field t.old n (clean own) (length h.updates)) })
+    -- No link of a record that may be linked is locked
+    pub comes_unlocked : (setup : Setup) (t : NodeStep) (body : List ℕ) (next : Option Near) → s.may_publish setup t.near t.field t.old body next t.call → (g : ℕ) → s.lockable g ≡ true → 3 ≤ g → ¬ HasLock (link_at body g)
     -- The record that may be taken out is linked, and isn't its own predecessor
     pub gone_linked : (setup : Setup) (x : ShapeInput) (t : NodeStep) (gone : RefParts) (note : Note) (new : LinkParts) (next : Option Near) → s.formed setup x → (n : NodeIs x.cells t.near t.field t.old)
         → t.old.target ≡ Some gone → s.may_unlink setup t.near t.field t.old (at_held gone note) new next t.call → LeadsTo x.cells gone × (n.index ≢ gone.index - 1)
+    -- No link of it is locked, and the link that is left in its stead isn't
+    pub goes_unlocked : (setup : Setup) (x : ShapeInput) (t : NodeStep) (gone : RefParts) (note : Note) (new : LinkParts) (next : Option Near) (i generation m : ℕ) (body : List ℕ) → s.formed setup x → FitsNear s x.cells (at_held gone note) i generation body m
+        → s.may_unlink setup t.near t.field t.old (at_held gone note) new next t.call → (g : ℕ) → s.lockable g ≡ true → 3 ≤ g → ¬ HasLock (link_at body g)
+    pub leaves_unlocked : (setup : Setup) (t : NodeStep) (gone : RefParts) (note : Note) (new : LinkParts) (next : Option Near) → s.may_unlink setup t.near t.field t.old (at_held gone note) new next t.call → s.lockable t.field ≡ true → ¬ HasLock new
     -- A record is taken off the link of its predecessor, and no key is
     pub unlinks : (setup : Setup) (x : ShapeInput) (h : Trace) (t : NodeStep) (gone : RefParts) (note : Note) (new : LinkParts) (next : Option Near) (i generation m : ℕ) (body : List ℕ) → Given setup x h → (n : NodeIs x.cells t.near t.field t.old)
         → t.old.target ≡ Some gone → FitsNear s x.cells (at_held gone note) i generation body m → (next ≡ None) ⊎ FitsNext s x.cells new.target next → IsLink new → s.may_unlink setup t.near t.field t.old (at_held gone note) new next t.call

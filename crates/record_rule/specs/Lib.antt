@@ -9,6 +9,7 @@ pub mod Least
 pub mod Taken
 pub mod Held
 pub mod Known
+pub mod Locks
 pub mod Histories
 pub mod Recorded
 pub mod Standings
@@ -20,6 +21,7 @@ pub mod HandingOut
 pub mod Asides
 pub mod ChainRows
 pub mod Links
+pub mod LockedLinks
 pub mod Placing
 pub mod ControlSteps
 pub mod Freeing

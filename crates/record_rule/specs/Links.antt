@@ -11,13 +11,14 @@ use Rattle.record_memory.specs.declared.books.Setup.{Setup}
 use Rattle.record_memory.specs.declared.books.View.{View}
 use Rattle.record_memory.specs.declared.books.Book.{Book}
 use Rattle.record_memory.specs.declared.books.Note.{Note}
+use Rattle.record_memory.specs.declared.books.LockedWord.{LockedWord}
 use Rattle.record_memory.specs.declared.books.Share.{Share}
 use Rattle.record_memory.specs.declared.books.Answered.{Answered}
 use Rattle.record_memory.specs.declared.books.Standing.TheVariants.{TakenOut, Limbo}
 use Rattle.row_words.specs.Refs.{RefParts, LinkParts}
 use Rattle.row_words.specs.Packing.{link_in, packed_link, packed_number, own_in, IsPackedLink}
 use Rattle.record_rule.specs.Inputs.{start_of}
-use Rattle.record_rule.specs.Facts.{At, word_in, mark_bit, clean, Near, at_root, at_held, ShapeFacts, FitsNote, update_for, Reach, CoverFacts}
+use Rattle.record_rule.specs.Facts.{At, word_in, mark_bit, has_lock, clean, Near, at_root, at_held, ShapeFacts, FitsNote, update_for, Reach, CoverFacts}
 use Rattle.record_rule.specs.Guards.{started_if}
 use Rattle.record_rule.specs.Laws.{root_at, with_update}
 use Rattle.record_rule.specs.Opening.{no_note}
@@ -208,39 +209,56 @@ pub record RefusedLink (v : View) (o : Origin) (f n : ℕ) (w : View) : Type 0 w
 abbrev pub link_word : Setup → Origin → LinkParts → ℕ
 link_word setup o l = packed_link (generation_at setup o) l
 
--- An exchange of a link is made
-pub record ExchangedLink (s : ShapeFacts) (v : View) (o : Origin) (f : ℕ) (old new : LinkParts) (call : Option Call) (w : View) : Type 0 where
+-- the node's word, as its caller has it locked with this link
+abbrev pub locked_word : Setup → Origin → ℕ → LinkParts → LockedWord
+locked_word setup o f l = record { index = index_of o; field = f; value = link_word setup o l }
+
+-- which words the caller has locked, once it exchanged a link for this one: where the word may be locked, a link with the flag locks it
+abbrev pub locks_after : ShapeFacts → View → Origin → ℕ → LinkParts → List LockedWord
+locks_after s v o f new = if s.lockable f && has_lock new then locked_word v.setup o f new ∷ v.own.locks else v.own.locks
+
+-- A step of this kind left another link in the node's word, and its caller has these words locked then
+pub record LeftLink (s : ShapeFacts) (v : View) (kind : StepKind) (o : Origin) (f : ℕ) (old new : LinkParts) (call : Option Call) (locks : List LockedWord) (w : View) : Type 0 where
   pub updates : List Update
   pub taken_out : List RefParts
   pub whole : AreWhole v updates taken_out
   -- the node's body afterwards
   pub body : List ℕ
   pub word : word_in body f ≡ link_word v.setup o new
-  pub view : w ≡ decided v updates taken_out call (record (with_step v.own v.setup.records (node_step v Exchange o f (link_word v.setup o old) (link_word v.setup o new))) { notes = noting (s.settled f body) v.own.notes o f (link_word v.setup o new) })
+  pub view : w ≡ decided v updates taken_out call (record (with_step v.own v.setup.records (node_step v kind o f (link_word v.setup o old) (link_word v.setup o new))) { locks = locks; notes = noting (s.settled f body) v.own.notes o f (link_word v.setup o new) })
+
+-- An exchange of a link is made
+abbrev pub ExchangedLink : ShapeFacts → View → Origin → ℕ → LinkParts → LinkParts → Option Call → View → Type 0
+ExchangedLink s v o f old new call w = LeftLink s v Exchange o f old new call (locks_after s v o f new) w
 
 -- What an exchange of a link tells, which found n
 pub record ToldExchange (s : ShapeFacts) (v : View) (o : Origin) (f : ℕ) (old new : LinkParts) (call : Option Call) (n : ℕ) (w : View) : Type 0 where
   pub made : n ≡ link_word v.setup o old → ExchangedLink s v o f old new call w
   pub refused : n ≢ link_word v.setup o old → RefusedLink v o f n w
 
--- An own record is linked behind the node
-pub record PublishedLink (s : ShapeFacts) (v : View) (o : Origin) (f : ℕ) (old : LinkParts) (own : RefParts) (call : Option Call) (w : View) : Type 0 where
+-- A step of this kind linked an own record behind the node, and its caller has these words locked then
+pub record PublishedBy (s : ShapeFacts) (v : View) (kind : StepKind) (o : Origin) (f : ℕ) (old : LinkParts) (own : RefParts) (call : Option Call) (locks : List LockedWord) (w : View) : Type 0 where
   pub updates : List Update
   pub taken_out : List RefParts
   pub whole : AreWhole v updates taken_out
   pub body : List ℕ
   pub word : word_in body f ≡ link_word v.setup o (clean own)
-  pub view : w ≡ decided v updates taken_out call (record (with_step v.own v.setup.records (node_step v Exchange o f (link_word v.setup o old) (link_word v.setup o (clean own)))) {
+  pub view : w ≡ decided v updates taken_out call (record (with_step v.own v.setup.records (node_step v kind o f (link_word v.setup o old) (link_word v.setup o (clean own)))) {
     mine = slice_set v.own.mine (own.index - 1) None;
+    locks = locks;
     notes = noting (s.settled f body) v.own.notes o f (link_word v.setup o (clean own));
   })
+
+-- An own record is linked behind the node
+abbrev pub PublishedLink : ShapeFacts → View → Origin → ℕ → LinkParts → RefParts → Option Call → View → Type 0
+PublishedLink s v o f old own call w = PublishedBy s v Exchange o f old own call v.own.locks w
 
 pub record ToldPublish (s : ShapeFacts) (v : View) (o : Origin) (f : ℕ) (old : LinkParts) (own : RefParts) (call : Option Call) (n : ℕ) (w : View) : Type 0 where
   pub made : n ≡ link_word v.setup o old → PublishedLink s v o f old own call w
   pub refused : n ≢ link_word v.setup o old → RefusedLink v o f n w
 
--- A held record is taken out behind the node
-pub record UnlinkedRecord (s : ShapeFacts) (v : View) (o : Origin) (f : ℕ) (gone : RefParts) (new : LinkParts) (w : View) : Type 0 where
+-- A step of this kind took a held record out behind the node, and its caller has these words locked then
+pub record UnlinkedBy (s : ShapeFacts) (v : View) (kind : StepKind) (o : Origin) (f : ℕ) (old : LinkParts) (gone : RefParts) (new : LinkParts) (locks : List LockedWord) (w : View) : Type 0 where
   pub updates : List Update
   pub taken_out : List RefParts
   pub whole : AreWhole v updates taken_out
@@ -254,10 +272,15 @@ pub record UnlinkedRecord (s : ShapeFacts) (v : View) (o : Origin) (f : ℕ) (go
   pub mine : length v.own.mine ≡ v.setup.records
   -- which said nothing of it before
   pub none : share_in v gone.index ≡ None
-  pub view : w ≡ seeing v updates (taken_out ++ gone ∷ []) (record (with_step v.own v.setup.records (node_step v Exchange o f (link_word v.setup o (clean gone)) (link_word v.setup o new))) {
+  pub view : w ≡ seeing v updates (taken_out ++ gone ∷ []) (record (with_step v.own v.setup.records (node_step v kind o f (link_word v.setup o old) (link_word v.setup o new))) {
     mine = slice_set v.own.mine (gone.index - 1) (Some (record { standing = TakenOut; generation = gone.generation; taken_number = length taken_out; words = words }));
+    locks = locks;
     notes = noting (s.settled f body) v.own.notes o f (link_word v.setup o new);
   })
+
+-- A held record is taken out behind the node
+abbrev pub UnlinkedRecord : ShapeFacts → View → Origin → ℕ → RefParts → LinkParts → View → Type 0
+UnlinkedRecord s v o f gone new w = UnlinkedBy s v Exchange o f (clean gone) gone new v.own.locks w
 
 pub record ToldUnlink (s : ShapeFacts) (v : View) (o : Origin) (f : ℕ) (gone : RefParts) (new : LinkParts) (n : ℕ) (w : View) : Type 0 where
   pub made : n ≡ link_word v.setup o (clean gone) → UnlinkedRecord s v o f gone new w

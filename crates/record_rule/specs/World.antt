@@ -24,6 +24,7 @@ use Rattle.record_rule.specs.Facts.{At, ShapeFacts, CoverFacts}
 use Rattle.record_rule.specs.Taken.{TakenFits}
 use Rattle.record_rule.specs.Held.{HeldFits}
 use Rattle.record_rule.specs.Known.{KnownFits}
+use Rattle.record_rule.specs.Locks.{LocksFit}
 use Rattle.record_rule.specs.Recorded.{StepFits, FoundWithin}
 use Rattle.record_rule.specs.Histories.{HistoryFits, after}
 use Rattle.record_rule.specs.Counts.{CountsFit}
@@ -121,6 +122,7 @@ pub record Parts (s : ShapeFacts) (c : CoverFacts) (setup : Setup) (o : Outline)
   pub taken : TakenFits setup o.takings o.taken_out
   pub held : (d : ℕ) (g : Guard) (notes : List Note) → At o.guards d g → At o.notes d notes → HeldFits s c.places o.shapes o.taken_out g notes
   pub known : (d : ℕ) (g : Guard) (notes : List Note) (roots : List (List ℕ)) → At o.guards d g → At o.notes d notes → At o.roots d roots → KnownFits s setup (shape_input o) o.updates g notes roots
+  pub locks : LocksFit s o.shapes o.locks
   pub shape : s.formed setup (shape_input o)
   pub told : s.told setup (shape_input o) (trace o)
   pub scheme : c.covered setup (scheme_input o)

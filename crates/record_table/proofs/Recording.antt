@@ -19,7 +19,9 @@ use Rattle.record_rule.specs.Freeing.{LoadedControl, LoadedBy}
 use Rattle.record_rule.specs.TakesFree.{LoadedFree}
 use Rattle.record_rule.specs.Placing.{placed_view}
 use Rattle.record_rule.specs.Asides.{put_aside_as, put_aside, took_spare_as, took_spare}
-use Rattle.record_rule.specs.Links.{Origin, from_place, index_of, node_step, LoadedKey, LoadedLink, ReachedLink, link_word, ExchangedLink, RefusedLink, ToldExchange, PublishedLink, ToldPublish, UnlinkedRecord, ToldUnlink}
+use Rattle.record_rule.specs.Links.{Origin, from_place, index_of, node_step, LoadedKey, LoadedLink, ReachedLink, link_word, locks_after, LeftLink, RefusedLink, ToldExchange, PublishedBy, ToldPublish, UnlinkedBy, ToldUnlink}
+use Rattle.record_rule.specs.LockedLinks.{locks_left, StoredLink, PublishedLocked, UnlinkedLocked, ToldLocked}
+use Rattle.record_memory.specs.declared.books.LockedWord.{LockedWord}
 use Rattle.record_rule.specs.ControlSteps.{seeing_if, own_store, StoredControl, MayStoreControl}
 use Rattle.record_table.specs.Recording.{Adds}
 use Rattle.record_table.specs.ToldLinks.{ToldRetire}
@@ -47,60 +49,75 @@ module _ (s : ShapeFacts) (v : View) (o : Origin) (f : ℕ) (place : Word) (name
   adds_refused : (n : ℕ) (w : View) → RefusedLink v o f n w → Adds Exchange place n n v w
   adds_refused n w t = adds_by Exchange place n n v w _ t.view record { same = record { caller = refl; setup = refl; present = refl; others = refl }; step = node_step v Exchange o f n n; one = refl; kind_is = refl; word_is = sym name; found_is = refl; left_is = refl; idle_is = refl }
 
-  adds_made : (old new : LinkParts) (call : Option Call) (n : ℕ) (w : View) → n ≡ link_word v.setup o old → ExchangedLink s v o f old new call w → Adds Exchange place n (link_word v.setup o new) v w
-  adds_made old new call n w e t = adds_by Exchange place n (link_word v.setup o new) v w _ t.view record {
-    same = record { caller = refl; setup = refl; present = refl; others = refl };
-    step = node_step v Exchange o f (link_word v.setup o old)
-        (link_word v.setup o new);
-    one = refl;
-    kind_is = refl;
-    word_is = sym name;
-    found_is = sym e;
-    left_is = refl;
-    idle_is = refl;
-  }
+  -- a step of any kind that left another link, linked an own record, or took one out
+  module _ (kind : StepKind) (old : LinkParts) (locks : List LockedWord) (n : ℕ) (w : View) (found : n ≡ link_word v.setup o old) where
+    adds_left : (new : LinkParts) (call : Option Call) → LeftLink s v kind o f old new call locks w → Adds kind place n (link_word v.setup o new) v w
+    adds_left new call t = adds_by kind place n (link_word v.setup o new) v w _ t.view record {
+      same = record { caller = refl; setup = refl; present = refl; others = refl };
+      step = node_step v kind o f (link_word v.setup o old)
+          (link_word v.setup o new);
+      one = refl;
+      kind_is = refl;
+      word_is = sym name;
+      found_is = sym found;
+      left_is = refl;
+      idle_is = refl;
+    }
 
-  adds_published : (old : LinkParts) (own : RefParts) (call : Option Call) (n : ℕ) (w : View) → n ≡ link_word v.setup o old → PublishedLink s v o f old own call w → Adds Exchange place n (link_word v.setup o (clean own)) v w
-  adds_published old own call n w e t = adds_by Exchange place n
-      (link_word v.setup o (clean own)) v w _ t.view record {
-        same = record { caller = refl; setup = refl; present = refl; others = refl };
-        step = node_step v Exchange o f (link_word v.setup o old)
-            (link_word v.setup o (clean own));
-        one = refl;
-        kind_is = refl;
-        word_is = sym name;
-        found_is = sym e;
-        left_is = refl;
-        idle_is = refl;
-      }
+    adds_published : (own : RefParts) (call : Option Call) → PublishedBy s v kind o f old own call locks w → Adds kind place n (link_word v.setup o (clean own)) v w
+    adds_published own call t = adds_by kind place n
+        (link_word v.setup o (clean own)) v w _ t.view record {
+          same = record { caller = refl; setup = refl; present = refl; others = refl };
+          step = node_step v kind o f (link_word v.setup o old)
+              (link_word v.setup o (clean own));
+          one = refl;
+          kind_is = refl;
+          word_is = sym name;
+          found_is = sym found;
+          left_is = refl;
+          idle_is = refl;
+        }
 
-  adds_unlinked : (gone : RefParts) (new : LinkParts) (n : ℕ) (w : View) → n ≡ link_word v.setup o (clean gone) → UnlinkedRecord s v o f gone new w → Adds Exchange place n (link_word v.setup o new) v w
-  adds_unlinked gone new n w e t = adds_by Exchange place n (link_word v.setup o new) v w _ t.view record {
-    same = record { caller = refl; setup = refl; present = refl; others = refl };
-    step = node_step v Exchange o f (link_word v.setup o (clean gone))
-        (link_word v.setup o new);
-    one = refl;
-    kind_is = refl;
-    word_is = sym name;
-    found_is = sym e;
-    left_is = refl;
-    idle_is = refl;
-  }
+    adds_unlinked : (gone : RefParts) (new : LinkParts) → UnlinkedBy s v kind o f old gone new locks w → Adds kind place n (link_word v.setup o new) v w
+    adds_unlinked gone new t = adds_by kind place n (link_word v.setup o new) v w _ t.view record {
+      same = record { caller = refl; setup = refl; present = refl; others = refl };
+      step = node_step v kind o f (link_word v.setup o old)
+          (link_word v.setup o new);
+      one = refl;
+      kind_is = refl;
+      word_is = sym name;
+      found_is = sym found;
+      left_is = refl;
+      idle_is = refl;
+    }
 
   -- an exchange, by the key of the table
   abbrev Exchanges : Setup → LinkParts → LinkParts → ℕ → View → Type 0
   Exchanges setup old new n w = Adds Exchange place n (cond (eqb n (link_word setup o old)) (link_word setup o new) n) v w
 
   pub adds_exchange : (setup : Setup) → v.setup ≡ setup → (old new : LinkParts) (call : Option Call) (n : ℕ) (w : View) → ToldExchange s v o f old new call n w → Exchanges setup old new n w
-  adds_exchange setup same old new call n w t = subst (λ (k : Setup). Exchanges k old new n w) same (by_exchange n (link_word v.setup o old) (link_word v.setup o new) (λ left. Adds Exchange place n left v w) (λ e. adds_made old new call n w e (t.made e)) (λ ne. adds_refused n w (t.refused ne)))
+  adds_exchange setup same old new call n w t = subst (λ (k : Setup). Exchanges k old new n w) same (by_exchange n (link_word v.setup o old) (link_word v.setup o new) (λ left. Adds Exchange place n left v w) (λ e. adds_left Exchange old (locks_after s v o f new) n w e new call (t.made e)) (λ ne. adds_refused n w (t.refused ne)))
 
   pub adds_publish : (setup : Setup) → v.setup ≡ setup → (old new : LinkParts) (own : RefParts) (call : Option Call) → new ≡ clean own → (n : ℕ) (w : View) → ToldPublish s v o f old own call n w → Exchanges setup old new n w
   adds_publish setup same old new own call is n w t = subst (λ (z : Setup × LinkParts). Exchanges z.0 old z.1 n w) (λ k. (same k, sym is k))
-      (by_exchange n (link_word v.setup o old) (link_word v.setup o (clean own)) (λ left. Adds Exchange place n left v w) (λ e. adds_published old own call n w e (t.made e)) (λ ne. adds_refused n w (t.refused ne)))
+      (by_exchange n (link_word v.setup o old) (link_word v.setup o (clean own)) (λ left. Adds Exchange place n left v w) (λ e. adds_published Exchange old v.own.locks n w e own call (t.made e)) (λ ne. adds_refused n w (t.refused ne)))
 
   pub adds_unlink : (setup : Setup) → v.setup ≡ setup → (old new : LinkParts) (gone : RefParts) → old ≡ clean gone → (n : ℕ) (w : View) → ToldUnlink s v o f gone new n w → Exchanges setup old new n w
   adds_unlink setup same old new gone is n w t = subst (λ (z : Setup × LinkParts). Exchanges z.0 z.1 new n w) (λ k. (same k, sym is k))
-      (by_exchange n (link_word v.setup o (clean gone)) (link_word v.setup o new) (λ left. Adds Exchange place n left v w) (λ e. adds_unlinked gone new n w e (t.made e)) (λ ne. adds_refused n w (t.refused ne)))
+      (by_exchange n (link_word v.setup o (clean gone)) (link_word v.setup o new) (λ left. Adds Exchange place n left v w) (λ e. adds_unlinked Exchange (clean gone) v.own.locks n w e gone new (t.made e)) (λ ne. adds_refused n w (t.refused ne)))
+
+  -- a store by the caller that has the word locked, by the key of the table
+  abbrev StoresLink : Setup → LinkParts → ℕ → View → Type 0
+  StoresLink setup new n w = Adds Store place n (link_word setup o new) v w
+
+  pub adds_stored_link : (setup : Setup) → v.setup ≡ setup → (new : LinkParts) (call : Option Call) (n : ℕ) (w : View) → ToldLocked v o f (λ x y. StoredLink s v o f x new call y) n w → StoresLink setup new n w
+  adds_stored_link setup same new call n w t = subst (λ (k : Setup). StoresLink k new n w) same (adds_left Store t.old (locks_left v o f) n w t.found new call t.left)
+
+  pub adds_publish_locked : (setup : Setup) → v.setup ≡ setup → (new : LinkParts) (own : RefParts) (call : Option Call) → new ≡ clean own → (n : ℕ) (w : View) → ToldLocked v o f (λ x y. PublishedLocked s v o f x own call y) n w → StoresLink setup new n w
+  adds_publish_locked setup same new own call is n w t = subst (λ (z : Setup × LinkParts). StoresLink z.0 z.1 n w) (λ k. (same k, sym is k)) (adds_published Store t.old (locks_left v o f) n w t.found own call t.left)
+
+  pub adds_unlink_locked : (setup : Setup) → v.setup ≡ setup → (new : LinkParts) (gone : RefParts) (n : ℕ) (w : View) → ToldLocked v o f (λ x y. UnlinkedLocked s v o f x gone new y) n w → StoresLink setup new n w
+  adds_unlink_locked setup same new gone n w t = subst (λ (k : Setup). StoresLink k new n w) same (adds_unlinked Store t.old (locks_left v o f) n w t.found gone new t.left)
 
 -- a load of a held record's key
 pub adds_key : (v : View) (p : ℕ) (place : Word) (r : RefParts) → place ≡ Field r.index 4 → (n : ℕ) (w : View) → LoadedKey v p r n w → Adds Load place n n v w

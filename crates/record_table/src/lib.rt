@@ -29,6 +29,8 @@ mod fields;
 mod hand_out;
 // Calls: steps on the words of roots and of held records.
 mod links;
+// Calls: stores in links by the callers that have them locked.
+mod locked;
 // Calls: making a table with its passes.
 mod making;
 // Calls: how the front of one pass reaches another.

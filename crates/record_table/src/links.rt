@@ -9,6 +9,7 @@ ghost use Rattle.record_rule.specs.Facts.{Near, clean};
 ghost use Rattle.record_rule.specs.HandingOut.{HasOwn};
 ghost use Rattle.record_rule.specs.Kinds.{Lawful};
 ghost use Rattle.record_rule.specs.Links.{LoadedKey, LoadedLink, ReachedLink, ExchangedLink, PublishedLink, UnlinkedRecord, RefusedLink, link_word, near_of, index_of, generation_at, IsNextOf, Decides};
+ghost use Rattle.record_rule.specs.LockedLinks.{IsUnlocked};
 ghost use Rattle.record_table.specs.Handles.{setup_of, rule, view, seat_of, is_inside, IsPassOf, IsSamePass};
 ghost use Rattle.record_table.specs.Nodes.{origin, origin_held, IsInTable, HoldsThere, HoldsNode, is_first, reach_at, IsRefused};
 ghost use Rattle.record_table.specs.Recording.{Records};
@@ -39,7 +40,7 @@ impl<S: Shape, R: Cover> Table<S, R> {
     }
 
     // Where word `field` of a node lies.
-    fn word_of(&self, node: &Node, field: u8) -> usize
+    pub(crate) fn word_of(&self, node: &Node, field: u8) -> usize
         requires node { IsInTable (setup_of self.now) (origin node.now) }
         requires field { field < 8 }
         ensures word { result ≡ address (setup_of self.now).callers (Field (index_of (origin node.now)) field) }
@@ -50,7 +51,7 @@ impl<S: Shape, R: Cover> Table<S, R> {
     }
 
     // The generation that a node's words carry.
-    fn generation_of(&self, node: &Node) -> u32
+    pub(crate) fn generation_of(&self, node: &Node) -> u32
         ensures { result ≡ generation_at (setup_of self.now) (origin node.now) }
     {
         match node {
@@ -144,8 +145,10 @@ impl<S: Shape, R: Cover> Table<S, R> {
     }
 
     /// Exchanges a link of a root or of a held record from `expected` to `new`, where the set allows
-    /// that. `field` is 3. `decides` names the call, an insertion or a removal, that the step decides
-    /// where it succeeds. It is refused exactly where the word held another link, and then nothing changed.
+    /// that. `field` is 3. Where the set says that the word may be locked, `expected` hasn't the flag
+    /// `LOCK`, and a `new` that has it locks the word for this caller. `decides` names the call, an
+    /// insertion or a removal, that the step decides where it succeeds. It is refused exactly where the
+    /// word held another link, and then nothing changed.
     pub fn exchange_link(
         &self,
         pass: &mut Pass<S, R>,
@@ -159,6 +162,7 @@ impl<S: Shape, R: Cover> Table<S, R> {
         requires node { HoldsNode pass.old node }
         requires field { field ≡ 3 }
         requires links { IsLink expected × IsLink new }
+        requires unlocked { IsUnlocked S.facts 3 expected }
         requires decides { Decides S.facts (view pass.old) decides }
         requires allowed { S.facts.may_exchange (setup_of self.now) (near_of (view pass.old) (origin node)) 3 expected new decides }
         ensures pass { IsSamePass pass.old pass.new }
@@ -170,8 +174,8 @@ impl<S: Shape, R: Cover> Table<S, R> {
     }
 
     /// Links an own record behind a root or a held record, without flags, where the set allows that:
-    /// an exchange of the node's link from `expected`. `field` is 3, and `decides` is as for
-    /// `exchange_link`. It is refused exactly where the word held another link, and hands `own` back.
+    /// an exchange of the node's link from `expected`. `field` is 3, and `expected` and `decides` are as
+    /// for `exchange_link`. It is refused exactly where the word held another link, and hands `own` back.
     pub fn publish(
         &self,
         pass: &mut Pass<S, R>,
@@ -185,6 +189,7 @@ impl<S: Shape, R: Cover> Table<S, R> {
         requires node { HoldsNode pass.old node }
         requires field { field ≡ 3 }
         requires link { IsLink expected }
+        requires unlocked { IsUnlocked S.facts 3 expected }
         requires decides { Decides S.facts (view pass.old) decides }
         requires allowed { (row : List ℕ) × (next : Option Near) × HasOwn (view pass.old) own row × IsNextOf (view pass.old) expected.target next
             × S.facts.may_publish (setup_of self.now) (near_of (view pass.old) (origin node)) 3 expected (drop 3 row) next decides }

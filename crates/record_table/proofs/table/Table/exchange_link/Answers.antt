@@ -12,7 +12,7 @@ exchange_on-requires-clause-node g c = in_table _ c.args.pass.now c.requires.pas
 
 pub exchange_on-requires-clause-lawful : goal.exchange_on-requires-clause-lawful
 exchange_on-requires-clause-lawful g c = exchanges_link g.S.Shape.facts g.R.Cover.facts g.S.Shape.laws g.R.Cover.laws _ c.args.self.now.numbers _ _ 3 _ (origin c.args.node) c.args.expected c.args.new c.args.decides c.requires.pass.present c.requires.pass.setup
-    refl (omega arith) (omega arith) (inr refl) (holds_node _ c.args.pass.now c.requires.pass.setup c.args.node c.requires.node) c.requires.links.0 c.requires.links.1 c.requires.decides c.requires.allowed
+    refl (omega arith) (omega arith) (inr refl) (holds_node _ c.args.pass.now c.requires.pass.setup c.args.node c.requires.node) c.requires.links.0 c.requires.links.1 c.requires.unlocked c.requires.decides c.requires.allowed
 
 pub exchange_on-requires-clause-recorded : goal.exchange_on-requires-clause-recorded
 exchange_on-requires-clause-recorded g c = λ n w t. adds_exchange g.S.Shape.facts c.args.pass.now.seat.me.0 (origin c.args.node) 3 _ refl c.args.self.now.board.shared.key c.requires.pass.setup c.args.expected c.args.new c.args.decides n w t

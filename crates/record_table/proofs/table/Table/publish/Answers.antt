@@ -20,7 +20,7 @@ exchange_on-requires-clause-lawful g c = let setup : Setup = c.args.self.now.boa
     with_words (rule g.S.Shape.facts g.R.Cover.facts c.args.self.now) _ c.args.pass.now.seat.me.0 (ToldPublish g.S.Shape.facts c.args.pass.now.seat.me.0 (origin c.args.node) 3 c.args.expected r c.args.decides) _ _ _ _ _ _ refl refl
     (ap (link_word setup (origin c.args.node)) c.to-new.ensures.link)
     (publishes_link g.S.Shape.facts g.R.Cover.facts g.S.Shape.laws g.R.Cover.laws _ c.args.self.now.numbers _ _ 3 _ (origin c.args.node) c.args.expected r c.requires.allowed.0 c.requires.allowed.1 c.args.decides c.requires.pass.present c.requires.pass.setup
-    refl (omega arith) (omega arith) (inr refl) (holds_node _ c.args.pass.now c.requires.pass.setup c.args.node c.requires.node) c.requires.link
+    refl (omega arith) (omega arith) (inr refl) (holds_node _ c.args.pass.now c.requires.pass.setup c.args.node c.requires.node) c.requires.link c.requires.unlocked
     (let leads = ap (λ (l : LinkParts). l.target) c.to-new.ensures.link in let in_range = c.to-new.ensures.in_range.target in subst IsTarget leads in_range)
     (subst (λ (x : RefParts). HasOwn c.args.pass.now.seat.me.0 x c.requires.allowed.0) (sym c.own.view_is) c.requires.allowed.2) c.requires.allowed.3 c.requires.decides c.requires.allowed.4)
 
