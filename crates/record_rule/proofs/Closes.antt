@@ -21,6 +21,7 @@ use Rattle.record_rule.specs.World.{carries, Places, Parts, Rule}
 use Rattle.record_rule.specs.ClosedTables.{AreAllAnswered, IsWhole, ClosedFits}
 use Rattle.record_rule.specs.PlaceCounts.{CountsAddUp}
 use Rattle.record_rule.specs.Counts.{CountsFit}
+use Rattle.record_rule.specs.Retirements.{RetirementsFit}
 use Rattle.record_rule.proofs.CountingPlaces.{counts_add_up}
 use Rattle.record_rule.proofs.CountingTakings.{taken_out_counted}
 use Rattle.record_rule.proofs.Lists.{at_below, get_at, map_at}
@@ -125,6 +126,7 @@ module _ (s : ShapeFacts) (c : CoverFacts) (setup : Setup) (t : State (Unit {0})
     taken_out = u.taken_out;
     taken = u.parts.taken;
     moved = subst (CountsFit setup.first u.records) (sym all_books) u.counts;
+    retirements = subst (RetirementsFit setup.first u.records) (sym all_books) u.retirements;
     waiting = behind;
     whole = is_whole;
     read = rows_are_read laws numbers;

@@ -1,6 +1,8 @@
 pub mod Lists
 pub mod Rebuilt
 pub mod Counts
+pub mod Retirements
+pub mod RetirementMoves
 pub mod Quiet
 pub mod Safe
 pub mod Waiting

@@ -33,6 +33,7 @@ use Rattle.record_rule.specs.Kinds.{Lawful}
 use Rattle.record_rule.specs.Links.{Origin, index_of, generation_at, near_of, note_in, Holds, IsNextOf, at_end, at_place, Decides, node_step, own_update, link_word, PublishedLink, ToldPublish}
 use Rattle.record_rule.proofs.Lists.{one_at, map_set_same}
 use Rattle.record_rule.proofs.Rebuilt.{starts_itself}
+use Rattle.record_rule.proofs.Retirements.{retires_none, shows_moved}
 use Rattle.record_rule.proofs.Quiet.{calm_after}
 use Rattle.record_rule.proofs.Owners.{record_of}
 use Rattle.record_rule.proofs.Safe.{safe}
@@ -151,7 +152,8 @@ module _ (shape : ShapeFacts) (cover : CoverFacts) (setup : Setup) (is_setup : I
             w,
             leaves shape cover setup is_setup s u id v at present o n word f is low high same holds new is_new call dec t mine records u.taken_out old old_is node_there
                 (finds_held shape cover setup is_setup s u id v at present o n Exchange f (link_word v.setup o old) (link_word v.setup o new) (subst (λ (z : Setup). own_in (link_word z o old) ≡ generation_at setup o) (sym same) own_is)
-                (subst (λ (z : Setup). own_in (link_word z o new) ≡ generation_at setup o) (sym same) (own_in-packed_link (generation_at setup o) new is_new)) (inr refl)) (λ e. cc) (starts_itself u.taken_out)
+                (subst (λ (z : Setup). own_in (link_word z o new) ≡ generation_at setup o) (sym same) (own_in-packed_link (generation_at setup o) new is_new)) (inr refl)) (λ e. cc)
+                (retires_none setup.first u.records records t (λ j g. refl) (shows_moved setup.first u.records k q q' x.there refl (sym (ap retired_as x.place)))) (starts_itself u.taken_out)
                 (published_places setup u.records u.books m c k v.own w.own q u.places (book shape cover setup s u id v at present) x.there x.place refl refl (calm_after v.own.drawing v.setup.records t tt))
                 (counts_moved setup.first u.records u.books c v.own w.own (book shape cover setup s u id v at present) u.counts k q q' x.there
                 (balances_same setup.first v.own.moves v.own.moves q q' refl refl refl refl refl (sym (ap drawn_as x.place)) (sym (ap retired_as x.place)) (sym (ap freed_as x.place)))) taken (held is_ref) (scheme covering)

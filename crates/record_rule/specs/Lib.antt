@@ -13,6 +13,7 @@ pub mod Histories
 pub mod Recorded
 pub mod Standings
 pub mod Counts
+pub mod Retirements
 pub mod World
 pub mod Opening
 pub mod Kinds
