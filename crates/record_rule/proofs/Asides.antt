@@ -198,7 +198,8 @@ module _ (shape : ShapeFacts) (cover : CoverFacts) (setup : Setup) where
       let e : put_aside v i value ≡ put_aside_as v i value (Some h) = ap (put_aside_as v i value) mine in
       let b : Book = (put_aside_as v i value (Some h)).own in let same_book : IsSameBook v.own b = record { guard = refl; notes = refl; roots = refl; locks = refl; answered = refl; offer = refl } in
       let kept : Rule shape cover setup record { words = set s.words (address setup.callers (Field i 1)) value; homes = s.homes; views = set s.views id (put_aside_as v i value (Some h)) } =
-      move_kept shape cover setup s u id v at present true false i value h x.0 pos x.1 x.2 x.3 was own link b refl same_book (field_store v i 1 value h) (fits shape cover setup s u id v at present i value h x.0 pos x.1 x.2 x.3 was own) (λ e. cc) (beside_stamp i 1 (field_store v i 1 value h) refl refl refl (λ e. omega arith)) refl
+      move_kept shape cover setup s u id v at present true false i value h x.0 pos x.1 x.2 x.3 was own link b refl same_book (field_store v i 1 value h) (fits shape cover setup s u id v at present i value h x.0 pos x.1 x.2 x.3 was own) (λ e. cc)
+      (beside_stamp i 1 (field_store v i 1 value h) refl refl refl (λ e. omega arith)) refl
       (calm_after v.own.drawing v.setup.records (field_store v i 1 value h) tt) refl v.own.moves.births refl in (
         put_aside v i value,
         subst (λ (z : ℕ × View). Rule shape cover setup record { words = set s.words z.0 value; homes = s.homes; views = set s.views id z.1 }) (λ k. (sym is k, sym e k)) kept,
@@ -216,7 +217,8 @@ module _ (shape : ShapeFacts) (cover : CoverFacts) (setup : Setup) where
       let b : Book = (took_spare_as v i n (Some h)).own in let same_book : IsSameBook v.own b = record { guard = refl; notes = refl; roots = refl; locks = refl; answered = refl; offer = refl } in
       let words_stay : h.words ≡ set h.words 1 n = sym (ap (set h.words 1) f.2 ∙ set-get_or h.words 1 0) in
       let kept : Rule shape cover setup record { words = set s.words (address setup.callers (Field i 1)) n; homes = s.homes; views = set s.views id (took_spare_as v i n (Some h)) } =
-      move_kept shape cover setup s u id v at present false true i n h r pos x.1 x.2 x.3 was f.0 f.1 b refl same_book (field_load v i 1 n) (load_fits shape cover setup s u id v at present i 1 n h.standing r x.1 x.2) (λ e. cc) (λ j g. refl) refl (calm_after v.own.drawing v.setup.records (field_load v i 1 n) tt)
+      move_kept shape cover setup s u id v at present false true i n h r pos x.1 x.2 x.3 was f.0 f.1 b refl same_book (field_load v i 1 n) (load_fits shape cover setup s u id v at present i 1 n h.standing r x.1 x.2) (λ e. cc) (λ j g. refl) refl
+      (calm_after v.own.drawing v.setup.records (field_load v i 1 n) tt)
       (ap (λ (l : List ℕ). set v.own.mine (i - 1) (Some (record h { standing = Own; words = l }))) words_stay) (v.own.moves.births + 1) refl in (
         took_spare v i n,
         subst (λ (z : ℕ × View). Rule shape cover setup record { words = set s.words z.0 n; homes = s.homes; views = set s.views id z.1 }) (λ k. (sym is k, sym e k)) kept,

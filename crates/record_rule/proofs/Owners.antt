@@ -222,7 +222,8 @@ module _ (shape : ShapeFacts) (cover : CoverFacts) (setup : Setup) (s : State (U
     -- so the rule stays where the facts hold
     kept_with : Parts shape cover setup now → Kept i f value h
     kept_with parts = rebuilt shape cover setup s u id v at present (words_after i f value) (length-set s.words (address setup.callers (Field i f)) value ∙ u.wide) (set u.records (i - 1) new) (after i f value h).own _
-        (store_fits i f value h r pos there is whole may.below (stored_part h.standing r.row f (u.places.sound (i - 1) r there).eight may.field may.below) may.own) refl refl refl refl refl (elsewhere m.drawn _ _ (ap (λ (x : Memory). x.drawn) stored_words) (λ e. cc)) retires_none_here places_after parts
+        (store_fits i f value h r pos there is whole may.below (stored_part h.standing r.row f (u.places.sound (i - 1) r there).eight may.field may.below) may.own) refl refl refl refl refl (elsewhere m.drawn _ _ (ap (λ (x : Memory). x.drawn) stored_words) (λ e. cc))
+        retires_none_here places_after parts
         (counts_moved setup.first u.records u.books c v.own (after i f value h).own own_there u.counts (i - 1) r new there (balances_stored setup.first c h.standing v.own.moves r new is refl refl))
 
     -- the store that ends a handing out
