@@ -18,6 +18,7 @@ pub mod Owners
 pub mod OpeningWords
 pub mod Opens
 pub mod Seats
+pub mod Beginnings
 pub mod Joins
 pub mod HistoryMoves
 pub mod Meetings

@@ -26,6 +26,7 @@ pub mod ControlSteps
 pub mod Freeing
 pub mod TakesFree
 pub mod Makes
+pub mod Beginnings
 pub mod Splits
 pub mod Meetings
 pub mod PlaceCounts
