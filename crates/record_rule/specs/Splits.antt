@@ -32,8 +32,8 @@ split_right v = right_of v v.others
 abbrev pub longer : {A : Type 0} → List A → List A → List A
 longer xs ys = if nat_lt (length xs) (length ys) then ys else xs
 
--- The front of two passes, and the updates that they have seen, by whether what each of them knows is of one history, and whether their fronts are.
--- It is on every table; so where it weren't, the joined pass would keep two lists of which neither begins the other, and the end of the table would show them
+-- What a joined pass knows of the updates, its front first: the longer lists, where what each of the two passes knows is of one history, and their fronts are.
+-- On a table they always are. Where they weren't, the pass would keep two lists of which neither begins the other, with which no table can end
 abbrev pub known_by : Bool → Bool → Bool → View → View → List Update × List Update
 known_by true true true v w = (longer v.front w.front, longer v.seen_updates w.seen_updates)
 known_by true true false v w = (v.front, w.front)
