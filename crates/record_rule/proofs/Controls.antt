@@ -337,7 +337,7 @@ module _ (shape : ShapeFacts) (cover : CoverFacts) (shaped : ShapeLaws shape) (c
         made = λ h. made_more setup c v.own.steps t (control_fits shape cover setup s u id v at present word) h;
         start_made = λ h. let k = one_more v.own.guard.start_step v.own.steps t h in let e : g2.start_step ≡ v.own.guard.start_step = same_holds.start.step ∙ has1.start.step in subst (λ (z : ℕ). z ≤ length (v.own.steps ++ t ∷ [])) (sym e) k;
       }
-      t refl record { grows = omega arith; found = load_within setup s.words v word } (retires_none setup.first u.records records' t (λ j g. refl) (freed_shows may c setup.first u.records))
+      t refl record { grows = omega arith; found = load_within setup s.words v word } (retires_none setup.first u.records records' t refl (freed_shows may c setup.first u.records))
       (freed_places setup u.records u.books m may c v.own own u.places mine refl refl (calm_after v.own.drawing v.setup.records t tt))
       (subst (Parts shape cover setup) now_is parts2)
       (counts_freed may c setup.first u.records u.books v.own own mine (u.places.books_fit c v.own mine).mine refl u.counts))

@@ -305,7 +305,7 @@ module _ (shape : ShapeFacts) (cover : CoverFacts) (setup : Setup) (is_setup : I
           w,
           leaves same holds new is_new call dec t mine u.records u.taken_out old old_is n.there
               (finds_held shape cover setup is_setup s u id v at present o n Exchange f (link_word v.setup o old) (link_word v.setup o new) (subst (λ (z : Setup). own_in (link_word z o old) ≡ generation_at setup o) (sym same) own_is)
-              (subst (λ (z : Setup). own_in (link_word z o new) ≡ generation_at setup o) (sym same) (own_in-packed_link (generation_at setup o) new is_new)) (inr refl)) (λ e. cc) (keeps_retired setup.first u.records t (λ j g. refl)) (starts_itself u.taken_out)
+              (subst (λ (z : Setup). own_in (link_word z o new) ≡ generation_at setup o) (sym same) (own_in-packed_link (generation_at setup o) new is_new)) (inr refl)) (λ e. cc) (keeps_retired setup.first u.records t refl) (starts_itself u.taken_out)
               (places_calm setup u.records u.books m c v.own w.own own_place refl refl (calm_after v.own.drawing v.setup.records t tt) u.places) (counts_calm setup.first u.records u.books c v.own w.own own_place u.counts refl) u.parts.taken u.parts.held u.parts.scheme
               (shaped.exchanges setup (shape_input was) (trace was) record { caller = c; number = length v.own.answered + 1; near = near_of v o; field = f; old = old; call = call } new (given shape cover setup s u)
               (node_with shape cover setup is_setup s u id v at present o n f old low old_is) is_new may),

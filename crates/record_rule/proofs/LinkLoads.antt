@@ -31,7 +31,7 @@ use Rattle.record_rule.specs.Kinds.{Lawful}
 use Rattle.record_rule.specs.Links.{roots_kept, Origin, from_place, index_of, generation_at, note_in, near_of, Holds, FitsBody, node_step, with_step, seeing, LoadedKey, noting, Saw, LoadedLink}
 use Rattle.record_rule.proofs.Lists.{map_set_same}
 use Rattle.record_rule.proofs.Rebuilt.{starts_itself, made_more, elsewhere, stepped}
-use Rattle.record_rule.proofs.Retirements.{MayLeave, leaving_calm, leaving_retires_none, keeps_retired}
+use Rattle.record_rule.proofs.Retirements.{MayLeave, leaving_calm, leaving_quiet, keeps_retired}
 use Rattle.record_rule.proofs.Safe.{safe}
 use Rattle.record_rule.proofs.Recents.{recent_started, recent_noting, held_started, known_started, step_started, words_started}
 use Rattle.record_rule.proofs.Counts.{counts_calm}
@@ -147,7 +147,7 @@ module _ (shape : ShapeFacts) (cover : CoverFacts) (setup : Setup) (s : State (U
           start_made = started;
           made = λ h. made_more setup c v.own.steps t finds h;
         }
-        t refl (elsewhere m.drawn m.drawn t refl other) (keeps_retired setup.first u.records t (leaving_retires_none t leaving))
+        t refl (elsewhere m.drawn m.drawn t refl other) (keeps_retired setup.first u.records t (leaving_quiet t.kind leaving))
         (places_calm setup u.records u.books m c v.own own own_there refl refl (calm_after v.own.drawing v.setup.records t (leaving_calm t.kind leaving)) u.places)
         (subst (Parts shape cover setup) (outline_held m u.records u.books c v.own own u.taken_out u.updates own_there refl refl refl) (held_parts g notes roots recent.updates_since words held known told covered)) (counts_calm setup.first u.records u.books c v.own own own_there u.counts refl))
 

@@ -298,6 +298,7 @@ module _ (setup : Setup) (ok : IsSetup setup) (first : Guard) where
     opening_retirements : RetirementsFit setup.first (opening_records setup) (opening_books setup first)
     opening_retirements = record {
       some_first = ok.some_first;
+      stored = λ c b e n t at. let x = at_books setup first 0 setup.callers c b e in let z : At {A = _} [] n t = ap (λ (w : Book). get_elem? w.steps n) x.1 ∙ at in let none : ⊥ = cc in absurd none;
       each = λ k g. nothing_by (retirements (k + 1) g) (λ c. refl) 0 setup.callers ∙ sym (none_there setup.first g (opening_records setup) k (opening_retired k g));
     }
 

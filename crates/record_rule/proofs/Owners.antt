@@ -32,7 +32,7 @@ use Rattle.record_rule.proofs.Owned.{at_some, share_of, has}
 use Rattle.record_rule.specs.Counts.{retired_as}
 use Rattle.record_rule.proofs.Counts.{counts_moved, balances_stored, stored_had}
 use Rattle.record_rule.proofs.Rebuilt.{not_held, elsewhere, rebuilt}
-use Rattle.record_rule.proofs.Retirements.{LeavesRetirements, retires_none, shows_moved}
+use Rattle.record_rule.proofs.Retirements.{LeavesRetirements, stored_none, shows_moved, stored_here}
 use Rattle.record_rule.proofs.RetirementMoves.{beside_stamp, over_other}
 use Rattle.record_rule.proofs.Quiet.{calm_after, IsSameBook, outline_scheme, outline_after}
 use Rattle.record_rule.proofs.Steps.{before, book, kept_calm}
@@ -215,8 +215,9 @@ module _ (shape : ShapeFacts) (cover : CoverFacts) (setup : Setup) (s : State (U
         let born : setup.first ≤ r.generation = sound.born (λ q. let none : Undrawn ≡ Of c h.standing = sym q ∙ is in let no_such : ⊥ = cc in no_such) in let first = u.retirements.some_first in
         let left : own_in value ≡ r.generation = may.own ∙ generation_is in
         let found = found_carried i f h r there is whole may.below (stored_part h.standing r.row f sound.eight may.field may.below) in
-        retires_none setup.first u.records (set u.records (i - 1) new) x
+        stored_none setup.first u.records (set u.records (i - 1) new) x
         (⊎_elim (beside_stamp i f x refl refl refl) (λ before. over_other i f x refl refl refl (λ e. omega arith)) (stamp_store h.standing r.generation f may.field))
+        (stored_here setup.first u.records (i - 1) r new there x i pos refl (λ j g e. let z : i ≡ j = cc in z) left)
         (shows_moved setup.first u.records (i - 1) r new there refl ((stored_had h.standing).0 ∙ sym (ap retired_as is)))
 
     -- so the rule stays where the facts hold

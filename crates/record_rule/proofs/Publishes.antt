@@ -153,7 +153,7 @@ module _ (shape : ShapeFacts) (cover : CoverFacts) (setup : Setup) (is_setup : I
             leaves shape cover setup is_setup s u id v at present o n word f is low high same holds new is_new call dec t mine records u.taken_out old old_is node_there
                 (finds_held shape cover setup is_setup s u id v at present o n Exchange f (link_word v.setup o old) (link_word v.setup o new) (subst (λ (z : Setup). own_in (link_word z o old) ≡ generation_at setup o) (sym same) own_is)
                 (subst (λ (z : Setup). own_in (link_word z o new) ≡ generation_at setup o) (sym same) (own_in-packed_link (generation_at setup o) new is_new)) (inr refl)) (λ e. cc)
-                (retires_none setup.first u.records records t (λ j g. refl) (shows_moved setup.first u.records k q q' x.there refl (sym (ap retired_as x.place)))) (starts_itself u.taken_out)
+                (retires_none setup.first u.records records t refl (shows_moved setup.first u.records k q q' x.there refl (sym (ap retired_as x.place)))) (starts_itself u.taken_out)
                 (published_places setup u.records u.books m c k v.own w.own q u.places (book shape cover setup s u id v at present) x.there x.place refl refl (calm_after v.own.drawing v.setup.records t tt))
                 (counts_moved setup.first u.records u.books c v.own w.own (book shape cover setup s u id v at present) u.counts k q q' x.there
                 (balances_same setup.first v.own.moves v.own.moves q q' refl refl refl refl refl (sym (ap drawn_as x.place)) (sym (ap retired_as x.place)) (sym (ap freed_as x.place)))) taken (held is_ref) (scheme covering)

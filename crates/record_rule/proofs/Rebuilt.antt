@@ -1,7 +1,7 @@
 -- The rule after a step: what a seat's view has to do with the books, and the rule put together from its parts.
 use Rattle.std.proofs.Common.{◌≡◌, ◌≢◌, ℕ, zero, suc, ◌≤◌, List, [], ◌∷◌, ◌++◌, length, length-append, set, Bool, true, sym, refl, ap, ◌∙◌, subst, arith, ⊎_elim, Some, None, inl}
 use Rattle.std.proofs.lemmas.List.{append-nil, append_assoc}
-use mathlib.Core.Option.{some, some-injective, some-ne-none}
+use mathlib.Core.Option.{some, some-injective}
 use Rattle.row_words.specs.Refs.{RefParts}
 use lib.ListN.{get_elem?}
 use Rattle.atomic_table.specs.Table.{State}
@@ -26,7 +26,7 @@ use Rattle.record_rule.specs.Recorded.{IsStepOn, LeavesWord, StepFits, FoundWith
 use Rattle.record_memory.specs.declared.steps.Word.{Word}
 use Rattle.record_memory.specs.declared.steps.Word.TheVariants.{Drawn, Epoch, Lock, Blank, Shelf, Announced, Cursor, Field}
 use Rattle.record_memory.specs.declared.steps.StepKind.TheVariants.{Load}
-use Rattle.record_rule.proofs.Lists.{below_at, each_set, one_at}
+use Rattle.record_rule.proofs.Lists.{below_at, each_set, each_more, one_at}
 use Rattle.record_rule.proofs.Recents.{recent_more}
 use Rattle.record_rule.proofs.Retirements.{LeavesRetirements, retirements_more}
 
@@ -137,13 +137,6 @@ module _ (setup : Setup) (books : List Book) (seats : List ℕ) (taken_out taken
       ⊎_elim (λ t. subst (λ (z : ℕ). SeatFits setup (set books v.own.caller x.own) seats taken_out' updates' z w) (sym t.0) (subst (SeatFits setup (set books v.own.caller x.own) seats taken_out' updates' id) t.1 (own_seat id v x here mine s)))
       (λ t. other_seat id j w v.own.caller x.own (own_book setup books seats taken_out updates id v here mine).1 t.0 (all j w t.1))
       (at_set views id j x w e)
-
--- what is so of each step, after one more of which it is so
-each_more : (P : Step → Type 0) (steps : List Step) (step : Step) → P step → ((n : ℕ) (t : Step) → At steps n t → P t) → (n : ℕ) (t : Step) → At (steps ++ step ∷ []) n t → P t
-each_more P [] step last h zero t e = subst P (some-injective step t e) last
-each_more P [] step last h (suc n) t e = absurd (some-ne-none t (sym e))
-each_more P (x ∷ xs) step last h zero t e = h 0 t e
-each_more P (x ∷ xs) step last h (suc n) t e = each_more P xs step last (λ i a b. h (suc i) a b) n t e
 
 -- each step found what it should, after one more that did
 pub made_more : (setup : Setup) (c : ℕ) (steps : List Step) (step : Step) → StepFits setup c step → ((n : ℕ) (t : Step) → At steps n t → StepFits setup c t) → (n : ℕ) (t : Step) → At (steps ++ step ∷ []) n t → StepFits setup c t

@@ -1,11 +1,12 @@
 -- What each move of a record shows of its retirements, and which of its owner's stores is one.
-use Rattle.std.proofs.Common.{◌≡◌, ◌≢◌, ℕ, zero, suc, ◌+◌, ◌-◌, ◌<◌, ◌≤◌, ◌⊎◌, inl, inr, List, [], ◌∷◌, set, Bool, true, false, cond, eqb, ltb, ◌&&◌, sym, refl, ap, ◌∙◌, arith, ⊎_elim, None}
+use Rattle.std.proofs.Common.{◌≡◌, ◌≢◌, ℕ, zero, suc, ◌+◌, ◌-◌, ◌<◌, ◌≤◌, ◌⊎◌, inl, inr, List, [], ◌∷◌, set, Bool, true, false, cond, eqb, ltb, ◌&&◌, sym, refl, ap, ◌∙◌, subst, sum_by, arith, ⊎_elim, None}
 use Rattle.std.proofs.lemmas.Bool.{lt-ltb, le-ltb, eq-eqb, ne_eqb, cases_lt, cases_eq, cases_order}
-use mathlib.Core.Option.{some}
+use mathlib.Core.Option.{some, some-injective, some-ne-none}
 use lib.ListN.{get_elem?}
 use Rattle.record_memory.specs.declared.steps.Step.{Step}
 use Rattle.record_memory.specs.declared.steps.StepKind.TheVariants.{Store}
 use Rattle.record_memory.specs.declared.steps.Word.TheVariants.{Field}
+use Rattle.record_memory.specs.declared.books.Book.{Book}
 use Rattle.record_memory.specs.declared.books.Place.TheVariants.{Of}
 use Rattle.record_memory.specs.declared.books.Standing.TheVariants.{Free, Spent}
 use Rattle.row_words.specs.Packing.{own_in}
@@ -13,9 +14,10 @@ use Rattle.record_rule.specs.Records.{Record}
 use Rattle.record_rule.specs.Facts.{LimboRecord}
 use Rattle.record_rule.specs.Counts.{retired_as}
 use Rattle.record_rule.specs.Freeing.{freed_standing}
-use Rattle.record_rule.specs.Retirements.{is_retirement, retired_at}
-use Rattle.record_rule.proofs.Freed.{goes_at, freed_records, went_at}
-use Rattle.record_rule.proofs.Retirements.{LeavesRetirements, ShowsSame, RetiresNone, kept_shows, retires_one}
+use Rattle.record_rule.specs.Retirements.{is_retirement, retirements, retired_at, retired_there, RetirementsFit, AreRetiredBetween}
+use Rattle.record_rule.proofs.FreedCounts.{same_era}
+use Rattle.record_rule.proofs.Freed.{goes_at, freed_record, freed_records, went_at}
+use Rattle.record_rule.proofs.Retirements.{Grows, LeavesRetirements, ShowsSame, RetiresNone, kept_shows, stored_here, retires_one}
 
 module _ (first g : ℕ) (r : Record) where
   -- before the first generation it was never retired
@@ -100,13 +102,18 @@ module _ (may : LimboRecord → Bool) (d first : ℕ) where
       by true = refl
       by false = refl
 
-  freed_from : (i : ℕ) (rs : List Record) → ShowsSame first rs (freed_records may d i rs)
+  freed_from : (i : ℕ) (rs : List Record) (k g : ℕ) → retired_there first g (get_elem? (freed_records may d i rs) k) ≡ retired_there first g (get_elem? rs k)
   freed_from i [] k g = refl
   freed_from i (r ∷ rs) zero g = freed_one i g r (goes_at may d i r.place r) refl
   freed_from i (r ∷ rs) (suc k) g = freed_from (i + 1) rs k g
 
+  freed_grows : (i : ℕ) (rs : List Record) → Grows rs (freed_records may d i rs)
+  freed_grows i [] k x e = absurd (some-ne-none x (sym e))
+  freed_grows i (r ∷ rs) zero x e = (freed_record may d i r, refl, let a = same_era may d i r in let b : r.generation ≡ x.generation = ap (λ (z : Record). z.generation) (some-injective r x e) in omega arith)
+  freed_grows i (r ∷ rs) (suc k) x e = freed_grows (i + 1) rs k x e
+
   pub freed_shows : (rs : List Record) → ShowsSame first rs (freed_records may d 0 rs)
-  freed_shows rs = freed_from 0 rs
+  freed_shows rs = record { shows = freed_from 0 rs; grows = freed_grows 0 rs }
 
 module _ (i f : ℕ) (t : Step) (kind : t.kind ≡ Store) (on : t.word ≡ Field i f) (alone : t.held ≡ None) where
   -- which stores in a record's words retire it
@@ -133,7 +140,8 @@ module _ (i f : ℕ) (t : Step) (kind : t.kind ≡ Store) (on : t.word ≡ Field
   -- one in the stamp that keeps the generation does
   pub in_stamp : (first : ℕ) (records : List Record) (r r' : Record) → get_elem? records (i - 1) ≡ some r → 0 < i → f ≡ 2 → own_in t.found ≡ r.generation → own_in t.left ≡ r.generation
       → first ≤ r.generation → r'.generation ≡ r.generation → retired_as r.place ≡ 0 → retired_as r'.place ≡ 1 → LeavesRetirements first records (set records (i - 1) r') t
-  in_stamp first records r r' there pos two found left born same was now = retires_one first records (i - 1) r r' there t
+  in_stamp first records r r' there pos two found left born same was now = retires_one first records (i - 1) r r' there t (omega arith)
+      (stored_here first records (i - 1) r r' there t i pos refl (λ j h e. let same : Field i f ≡ Field j h = sym on ∙ e in let z : i ≡ j = cc in z) (left ∙ sym same))
       (λ g. retired_shows first r r' born same was now g ∙ ap (λ (b : Bool). retired_at first g r + cond b 1 0) (sym (at_own g)))
       (λ j g ne. store_is (j + 1) g ∙ ap (λ (b : Bool). (b && eqb f 2) && (eqb (own_in t.found) g && eqb (own_in t.left) g)) (ne_eqb i (j + 1) (λ e. ne (omega arith))))
     where
@@ -143,3 +151,9 @@ module _ (i f : ℕ) (t : Step) (kind : t.kind ≡ Store) (on : t.word ≡ Field
 
       at_own : (g : ℕ) → is_retirement (i - 1 + 1) g t ≡ eqb r.generation g
       at_own g = store_is (i - 1 + 1) g ∙ (λ k. (eq-eqb i (i - 1 + 1) (omega arith) k && eq-eqb f 2 two k) && (eqb (found k) g && eqb (left k) g)) ∙ twice (eqb r.generation g)
+
+-- A record that was handed out again has a later generation than the one before, so just one step retired it at that
+pub retired_between : (first : ℕ) (records : List Record) (books : List Book) → RetirementsFit first records books → AreRetiredBetween first books
+retired_between first records books fits c b e n t at i g le again = let x = fits.stored c b e n t at i 2 again.kind again.word in let low = x.own in let next = again.left in let pos = x.some_index in
+    subst (λ (j : ℕ). sum_by (retirements j g) books ≡ 1) (let z : i - 1 + 1 ≡ i = omega arith in z)
+    (fits.each (i - 1) g ∙ ap (retired_there first g) x.there ∙ retired_older first g x.record_is le (omega arith))

@@ -165,8 +165,8 @@ module _ (shape : ShapeFacts) (cover : CoverFacts) (setup : Setup) (s : State (U
 
   -- it was retired once at its generation, and at the next one never
   retires_none_here : LeavesRetirements setup.first u.records (set u.records i new) (field_load v r.index 1 (get_or node.row 1 0))
-  retires_none_here = let sound = u.places.sound i node there in retires_none setup.first u.records (set u.records i new) (field_load v r.index 1 (get_or node.row 1 0)) (λ j g. refl)
-      (shows_same setup.first u.records i node new there (renewed_shows setup.first node new (sound.born (λ q. let none : Undrawn ≡ Of c Free = sym q ∙ is in let no_such : ⊥ = cc in no_such)) refl (ap retired_as is) refl))
+  retires_none_here = let sound = u.places.sound i node there in retires_none setup.first u.records (set u.records i new) (field_load v r.index 1 (get_or node.row 1 0)) refl
+      (shows_same setup.first u.records i node new there (omega arith) (renewed_shows setup.first node new (sound.born (λ q. let none : Undrawn ≡ Of c Free = sym q ∙ is in let no_such : ⊥ = cc in no_such)) refl (ap retired_as is) refl))
 
   -- so the rule stays
   kept : (word : ℕ) → Rule shape cover setup record { words = set s.words word (get_or s.words word 0); homes = s.homes; views = set s.views id (took_free v r has.share node.row) }

@@ -157,7 +157,7 @@ module _ (shape : ShapeFacts) (cover : CoverFacts) (shaped : ShapeLaws shape) (s
       leaves shape cover setup is_setup s u id v at present o n word f is low high same holds new is_link None tt t mine records taken_out (clean gone) old_is node_there
           (finds_held shape cover setup is_setup s u id v at present o n Exchange f (link_word v.setup o (clean gone)) (link_word v.setup o new) (subst (λ (z : Setup). own_in (link_word z o (clean gone)) ≡ generation_at setup o) (sym same) own_is)
           (subst (λ (z : Setup). own_in (link_word z o new) ≡ generation_at setup o) (sym same) (own_in-packed_link (generation_at setup o) new is_link)) (inr refl)) (λ e. cc)
-          (retires_none setup.first u.records records t (λ j g. refl) (shows_moved setup.first u.records k r r' q.there refl (sym (ap retired_as gone_place)))) (starts_more u.taken_out (gone ∷ []))
+          (retires_none setup.first u.records records t refl (shows_moved setup.first u.records k r r' q.there refl (sym (ap retired_as gone_place)))) (starts_more u.taken_out (gone ∷ []))
           (taken_places setup u.records u.books m c k count v.own w.own r u.places (book shape cover setup s u id v at present) q.there gone_place refl
           (ap (λ (e : ℕ). set v.own.mine k (Some (record { standing = TakenOut; generation = e; taken_number = count; words = take 3 r.row }))) (sym q.generation)) (calm_after v.own.drawing v.setup.records t tt))
           (counts_moved setup.first u.records u.books c v.own w.own (book shape cover setup s u id v at present) u.counts k r r' q.there

@@ -1,5 +1,5 @@
 -- How often each record was retired at each of its generations, told by the atomic steps that callers made.
-use Rattle.std.specs.Prelude.{◌≡◌, ℕ, ◌+◌, ◌<◌, ◌&&◌, List, Bool, true, false, Option, Some, None, sum_by, count_by, nat_lt, ◌==◌, if◌then◌else◌}
+use Rattle.std.specs.Prelude.{◌≡◌, ℕ, ◌+◌, ◌-◌, ◌<◌, ◌≤◌, ◌&&◌, List, Bool, true, false, Option, Some, None, sum_by, count_by, nat_lt, ◌==◌, if◌then◌else◌}
 use mathlib.Core.Option.{some, none}
 use lib.ListN.{get_elem?}
 use Rattle.record_memory.specs.declared.steps.Step.{Step}
@@ -11,6 +11,7 @@ use Rattle.record_memory.specs.declared.books.Book.{Book}
 use Rattle.row_words.specs.Refs.{RefParts}
 use Rattle.row_words.specs.Packing.{own_in}
 use Rattle.record_rule.specs.Records.{Record}
+use Rattle.record_rule.specs.Facts.{At}
 use Rattle.record_rule.specs.Counts.{retired_as}
 
 -- a step of this kind stores
@@ -55,8 +56,32 @@ abbrev pub retired_there : ℕ → ℕ → mathlib.Core.Option.Option Record →
 retired_there first g none = 0
 retired_there first g (some r) = retired_at first g r
 
--- Each record was retired by just so many steps of all callers as its generation and its place show: so it was retired once between two handings out
+-- record i is there, and its generation is no earlier than the one that the step left
+pub record IsStoredIn (records : List Record) (i : ℕ) (t : Step) : Type 0 where
+  pub some_index : 0 < i
+  pub record_is : Record
+  pub there : At records (i - 1) record_is
+  pub own : own_in t.left ≤ record_is.generation
+
+-- so it is with the record that the step stored a word of
+abbrev pub WasStored : List Record → Step → Type 0
+WasStored records t = (i f : ℕ) → t.kind ≡ Store → t.word ≡ Field i f → IsStoredIn records i t
+
+-- Each record was retired by just so many steps of all callers as its generation and its place show
 pub record RetirementsFit (first : ℕ) (records : List Record) (books : List Book) : Type 0 where
   -- a record that is being handed out for the first time has a generation before it
   pub some_first : 0 < first
   pub each : (k g : ℕ) → sum_by (retirements (k + 1) g) books ≡ retired_there first g (get_elem? records k)
+  -- each store in a record's words was in a record of the table, and left no later generation than it has
+  pub stored : (c : ℕ) (b : Book) → At books c b → (n : ℕ) (t : Step) → At b.steps n t → WasStored records t
+
+-- the step hands record i out again behind generation g: it stores the next generation over it, in the stamp
+pub record HandsOutAgain (i g : ℕ) (t : Step) : Type 0 where
+  pub kind : t.kind ≡ Store
+  pub word : t.word ≡ Field i 2
+  pub found : own_in t.found ≡ g
+  pub left : own_in t.left ≡ g + 1
+
+-- Wherever a step of a caller did, just one step of all callers retired that record at generation g
+abbrev pub AreRetiredBetween : ℕ → List Book → Type 0
+AreRetiredBetween first books = (c : ℕ) (b : Book) → At books c b → (n : ℕ) (t : Step) → At b.steps n t → (i g : ℕ) → first ≤ g → HandsOutAgain i g t → sum_by (retirements i g) books ≡ 1
