@@ -2,7 +2,7 @@
 ghost use Rattle.std.specs.Prelude.{◌≡◌, ◌↔◌, ◌<◌, ℕ, Err, IfOk, All, map, false};
 ghost use Rattle.record_table.specs.Handles.{setup_of, view, is_inside, IsPassOf};
 ghost use Rattle.record_table.specs.Made.{IsFresh, AreFreshPasses, setup_with, AreBadRecords, AreBadCallers};
-ghost use Rattle.record_table.specs.Closing.{closed_setup, closed_books, own_book, AreAllPasses, IsClosedBy};
+ghost use Rattle.record_table.specs.Closing.{closed_setup, closed_books, own_book, AreAllPasses, IsClosedBy, BeginsHistory};
 ghost use Rattle.manager.specs.Callers.{IsResting};
 ghost use Rattle.manager.specs.Made.{passes_of, AreAddedUp};
 
@@ -99,11 +99,12 @@ impl<S: Shape, R: Scheme, A: Allocator, P: Pool> Manager<S, R, A, P> {
 
     /// Closes the table. `callers` has every caller of this manager in order of number. Over all callers and
     /// shelves, as many records were freed as were reused, are free and are spent, and as many are in limbo as
-    /// were retired and not freed.
+    /// were retired and not freed. The front of each caller begins the table's one history.
     pub fn close(self, mut callers: Vec<Caller<S, R>>) -> Closed
         requires { AreAllPasses self.table (passes_of callers.items) }
         ensures setup { closed_setup result ≡ setup_of self.table }
         ensures books { closed_books result ≡ map own_book (passes_of callers.items) }
+        ensures fronts { All (BeginsHistory result) (passes_of callers.items) }
         ensures fits { IsClosedBy S.facts R.facts result }
         ensures moves { AreAddedUp result }
     {

@@ -32,6 +32,9 @@ use Rattle.record_memory.specs.declared.books.Moves.{Moves}
 use Rattle.record_rule.specs.Counts.{drawn_as, retired_had, retired_as, freed_had, freed_as}
 use Rattle.record_rule.proofs.Counts.{counts_moved, balances_same}
 use Rattle.record_rule.proofs.Rebuilt.{elsewhere, rebuilt}
+use Rattle.record_rule.proofs.Retirements.{LeavesRetirements, RetiresNone, stored_none, shows_moved, stored_here}
+use Rattle.record_rule.specs.Retirements.{WasStored}
+use Rattle.record_rule.proofs.RetirementMoves.{beside_stamp}
 use Rattle.record_rule.proofs.Quiet.{calm_after, IsSameBook, outline_after}
 use Rattle.record_rule.proofs.Steps.{book}
 use Rattle.record_rule.proofs.Fields.{with_word, Stores, owner_places}
@@ -109,7 +112,7 @@ module _ (shape : ShapeFacts) (cover : CoverFacts) (setup : Setup) (s : State (U
   -- The record's chain word is stored, and it goes from own or spare to own or spare. `b` is the caller's book afterwards
   module _ (from to : Bool) (i value : ℕ) (h : Share) (r : Record) (pos : 0 < i) (there : get_elem? u.records (i - 1) ≡ some r) (is : r.place ≡ Of c h.standing) (whole : h ≡ share_of h.standing r) (was : h.standing ≡ kept_as from)
       (own : own_in value ≡ h.generation) (link : IsLinkIn 1 value) (b : Book) (caller : b.caller ≡ c) (same : IsSameBook v.own b) (step : Step) (finds : StepFits setup c step)
-      (other : ¬ (step.word ≡ Drawn)) (steps : b.steps ≡ v.own.steps ++ step ∷ []) (weight : overshoot b ≡ overshoot v.own)
+      (other : ¬ (step.word ≡ Drawn)) (none : RetiresNone step) (stored : WasStored (set u.records (i - 1) (with_word c (kept_as to) r 1 value)) step) (steps : b.steps ≡ v.own.steps ++ step ∷ []) (weight : overshoot b ≡ overshoot v.own)
       (mine : b.mine ≡ set v.own.mine (i - 1) (Some (moved h to value))) (births : ℕ) (moves : b.moves ≡ record v.own.moves { births = births }) where
     -- the record afterwards
     abbrev new : Record
@@ -152,10 +155,14 @@ module _ (shape : ShapeFacts) (cover : CoverFacts) (setup : Setup) (s : State (U
     cell_is : scheme_cell new ≡ scheme_cell r
     cell_is = unpublished_kept to c new ∙ ap (λ (n : ℕ). unpublished c r.generation (number_in n)) (get_or-set_other r.row 1 0 value 0 (λ e. omega arith)) ∙ sym (ap (λ (p : Place). scheme_at p r) was_at ∙ unpublished_kept from c r)
 
+    -- no record shows another number of retirements
+    retires_none_here : LeavesRetirements setup.first u.records (set u.records (i - 1) new) step
+    retires_none_here = stored_none setup.first u.records (set u.records (i - 1) new) step none stored (shows_moved setup.first u.records (i - 1) r new there refl (not_retired to ∙ sym (ap retired_as was_at ∙ not_retired from)))
+
     -- so the rule stays
     pub move_kept : Rule shape cover setup record { words = after i value; homes = s.homes; views = set s.views id (record v { own = b }) }
     move_kept = rebuilt shape cover setup s u id v at present (after i value) (length-set s.words (address setup.callers (Field i 1)) value ∙ u.wide) (set u.records (i - 1) new) b step finds caller same.answered same.guard same.notes steps
-        (elsewhere m.drawn _ step (ap (λ (x : Memory). x.drawn) stored_words) other) places_after
+        (elsewhere m.drawn _ step (ap (λ (x : Memory). x.drawn) stored_words) other) retires_none_here places_after
         (subst (Parts shape cover setup) (sym (outline_after m (memory setup.callers setup.records (after i value)) u.taken_out u.updates (ap (λ (x : Memory). x.epoch) stored_words)
         (ap (λ (x : Memory). x.announced) stored_words) u.books c v.own b own_there same u.records (i - 1) r new there record {
           shape = hidden_kept to new ∙ sym (ap (λ (p : Place). shape_at p r) was_at ∙ hidden_kept from r);
@@ -192,7 +199,9 @@ module _ (shape : ShapeFacts) (cover : CoverFacts) (setup : Setup) where
       let e : put_aside v i value ≡ put_aside_as v i value (Some h) = ap (put_aside_as v i value) mine in
       let b : Book = (put_aside_as v i value (Some h)).own in let same_book : IsSameBook v.own b = record { guard = refl; notes = refl; roots = refl; locks = refl; answered = refl; offer = refl } in
       let kept : Rule shape cover setup record { words = set s.words (address setup.callers (Field i 1)) value; homes = s.homes; views = set s.views id (put_aside_as v i value (Some h)) } =
-      move_kept shape cover setup s u id v at present true false i value h x.0 pos x.1 x.2 x.3 was own link b refl same_book (field_store v i 1 value h) (fits shape cover setup s u id v at present i value h x.0 pos x.1 x.2 x.3 was own) (λ e. cc) refl
+      move_kept shape cover setup s u id v at present true false i value h x.0 pos x.1 x.2 x.3 was own link b refl same_book (field_store v i 1 value h) (fits shape cover setup s u id v at present i value h x.0 pos x.1 x.2 x.3 was own) (λ e. cc)
+      (beside_stamp i 1 (field_store v i 1 value h) refl refl refl (λ e. omega arith))
+      (stored_here setup.first u.records (i - 1) x.0 (with_word v.own.caller Spare x.0 1 value) x.1 (field_store v i 1 value h) i pos refl (λ j f e. let z : i ≡ j = cc in z) (own ∙ ap (λ (y : Share). y.generation) x.3)) refl
       (calm_after v.own.drawing v.setup.records (field_store v i 1 value h) tt) refl v.own.moves.births refl in (
         put_aside v i value,
         subst (λ (z : ℕ × View). Rule shape cover setup record { words = set s.words z.0 value; homes = s.homes; views = set s.views id z.1 }) (λ k. (sym is k, sym e k)) kept,
@@ -210,7 +219,8 @@ module _ (shape : ShapeFacts) (cover : CoverFacts) (setup : Setup) where
       let b : Book = (took_spare_as v i n (Some h)).own in let same_book : IsSameBook v.own b = record { guard = refl; notes = refl; roots = refl; locks = refl; answered = refl; offer = refl } in
       let words_stay : h.words ≡ set h.words 1 n = sym (ap (set h.words 1) f.2 ∙ set-get_or h.words 1 0) in
       let kept : Rule shape cover setup record { words = set s.words (address setup.callers (Field i 1)) n; homes = s.homes; views = set s.views id (took_spare_as v i n (Some h)) } =
-      move_kept shape cover setup s u id v at present false true i n h r pos x.1 x.2 x.3 was f.0 f.1 b refl same_book (field_load v i 1 n) (load_fits shape cover setup s u id v at present i 1 n h.standing r x.1 x.2) (λ e. cc) refl (calm_after v.own.drawing v.setup.records (field_load v i 1 n) tt)
+      move_kept shape cover setup s u id v at present false true i n h r pos x.1 x.2 x.3 was f.0 f.1 b refl same_book (field_load v i 1 n) (load_fits shape cover setup s u id v at present i 1 n h.standing r x.1 x.2) (λ e. cc) (λ j g. refl) (λ j f kind on. let none : ⊥ = cc in absurd none) refl
+      (calm_after v.own.drawing v.setup.records (field_load v i 1 n) tt)
       (ap (λ (l : List ℕ). set v.own.mine (i - 1) (Some (record h { standing = Own; words = l }))) words_stay) (v.own.moves.births + 1) refl in (
         took_spare v i n,
         subst (λ (z : ℕ × View). Rule shape cover setup record { words = set s.words z.0 n; homes = s.homes; views = set s.views id z.1 }) (λ k. (sym is k, sym e k)) kept,

@@ -21,9 +21,11 @@ use Rattle.record_rule.specs.World.{carries, Places, Parts, Rule}
 use Rattle.record_rule.specs.ClosedTables.{AreAllAnswered, IsWhole, ClosedFits}
 use Rattle.record_rule.specs.PlaceCounts.{CountsAddUp}
 use Rattle.record_rule.specs.Counts.{CountsFit}
+use Rattle.record_rule.specs.Retirements.{RetirementsFit, AreRetiredBetween}
 use Rattle.record_rule.proofs.CountingPlaces.{counts_add_up}
 use Rattle.record_rule.proofs.CountingTakings.{taken_out_counted}
 use Rattle.record_rule.proofs.Lists.{at_below, get_at, map_at}
+use Rattle.record_rule.proofs.RetirementMoves.{retired_between}
 use Rattle.record_rule.proofs.Steps.{given}
 use Rattle.record_rule.proofs.Walking.{has_roots, rows_read}
 
@@ -125,6 +127,8 @@ module _ (s : ShapeFacts) (c : CoverFacts) (setup : Setup) (t : State (Unit {0})
     taken_out = u.taken_out;
     taken = u.parts.taken;
     moved = subst (CountsFit setup.first u.records) (sym all_books) u.counts;
+    retirements = subst (RetirementsFit setup.first u.records) (sym all_books) u.retirements;
+    retired_between = subst (AreRetiredBetween setup.first) (sym all_books) (retired_between setup.first u.records u.books u.retirements);
     waiting = behind;
     whole = is_whole;
     read = rows_are_read laws numbers;

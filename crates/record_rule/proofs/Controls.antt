@@ -37,6 +37,8 @@ use Rattle.record_rule.specs.Freeing.{freed_from, LoadedControl, LoadedBy}
 use Rattle.record_rule.proofs.Lists.{below_at, at_below, one_at, get_at, map_set_same}
 use Rattle.record_rule.proofs.Quiet.{same_overshoot, past_before, books_after, calm_after}
 use Rattle.record_rule.proofs.Rebuilt.{starts_itself, one_more, made_more, stepped}
+use Rattle.record_rule.proofs.Retirements.{retires_none}
+use Rattle.record_rule.proofs.RetirementMoves.{freed_shows}
 use Rattle.record_rule.proofs.Loads.{load_within, control_fits, loads_control}
 use Rattle.record_rule.specs.Kinds.{share_in, freed_more}
 use Rattle.record_rule.specs.Freeing.{count_freed}
@@ -337,7 +339,7 @@ module _ (shape : ShapeFacts) (cover : CoverFacts) (shaped : ShapeLaws shape) (c
         made = λ h. made_more setup c v.own.steps t (control_fits shape cover setup s u id v at present word) h;
         start_made = λ h. let k = one_more v.own.guard.start_step v.own.steps t h in let e : g2.start_step ≡ v.own.guard.start_step = same_holds.start.step ∙ has1.start.step in subst (λ (z : ℕ). z ≤ length (v.own.steps ++ t ∷ [])) (sym e) k;
       }
-      t refl record { grows = omega arith; found = load_within setup s.words v word }
+      t refl record { grows = omega arith; found = load_within setup s.words v word } (retires_none setup.first u.records records' t refl (freed_shows may c setup.first u.records))
       (freed_places setup u.records u.books m may c v.own own u.places mine refl refl (calm_after v.own.drawing v.setup.records t tt))
       (subst (Parts shape cover setup) now_is parts2)
       (counts_freed may c setup.first u.records u.books v.own own mine (u.places.books_fit c v.own mine).mine refl u.counts))

@@ -67,7 +67,7 @@ module _ where
       by false = (refl, refl, refl, refl)
   stored_drawn s m = (refl, refl, refl, refl)
 
-  stored_had : (s : Standing) → (retired_had (standing_after s) ≡ retired_had s) × (freed_had (standing_after s) ≡ freed_had s)
+  pub stored_had : (s : Standing) → (retired_had (standing_after s) ≡ retired_had s) × (freed_had (standing_after s) ≡ freed_had s)
   stored_had (Handing n) = by (eqb n 7)
     where
       by : (b : Bool) → (retired_had (cond b Own (Handing (n + 1))) ≡ 0) × (freed_had (cond b Own (Handing (n + 1))) ≡ 0)

@@ -33,6 +33,8 @@ use Rattle.record_memory.specs.declared.books.Moves.{Moves}
 use Rattle.record_rule.specs.Kinds.{drew_one}
 use Rattle.record_rule.proofs.Counts.{Balances, counts_calm, counts_moved, balances_drawn}
 use Rattle.record_rule.proofs.Rebuilt.{LeavesDrawn, no_field, rebuilt}
+use Rattle.record_rule.proofs.Retirements.{keeps_retired, retires_none, shows_same}
+use Rattle.record_rule.proofs.RetirementMoves.{drawn_shows}
 use Rattle.record_rule.proofs.Steps.{book}
 use Rattle.record_rule.proofs.Quiet.{books_after, IsSameBook, outline_same, outline_after}
 
@@ -204,6 +206,8 @@ module _ (setup : Setup) (is_setup : IsSetup setup) (bump : setup.allocator ≡ 
           let untouched : r.place ≡ Undrawn = u.places.left n r there.1 (left_to m n (let e = found in omega arith)) in
           let weight : overshoot own ≡ overshoot v.own = ap overshoot_by drawing ∙ sym (ap overshoot_by below) in
           rebuilt shape cover setup s u id v at present (set s.words 0 (n + 1)) wide (set u.records n new) own (draw_step v n) drawn_fits caller same.answered same.guard same.notes steps grew
+          (retires_none setup.first u.records (set u.records n new) (draw_step v n) refl
+          (shows_same setup.first u.records n r new there.1 (let e = (u.places.sound n r there.1).unborn untouched in omega arith) (drawn_shows setup.first r new ((u.places.sound n r there.1).unborn untouched) refl refl)))
           (subst (λ (x : Memory). Places setup (set u.records n new) (set u.books c own) x) (sym stored)
           (drawn_places u.records u.books m c n v.own own r u.places mine there.1 found lt caller mine_is weight (λ h. let no : ⊥ = (let e : Unsure ≡ Past = sym drawing ∙ h in cc) in no)))
           (subst (Parts shape cover setup) (sym (outline_after m (memory setup.callers setup.records (set s.words 0 (n + 1))) u.taken_out u.updates (ap (λ (x : Memory). x.epoch) stored) (ap (λ (x : Memory). x.announced) stored) u.books c v.own own mine same u.records n r new there.1 record {
@@ -217,6 +221,7 @@ module _ (setup : Setup) (is_setup : IsSetup setup) (bump : setup.allocator ≡ 
       draws_none : (own : Book) → own.caller ≡ c → IsSameBook v.own own → own.steps ≡ v.own.steps ++ draw_step v n ∷ [] → setup.records ≤ n → own.mine ≡ v.own.mine → own.drawing ≡ Past → own.moves ≡ v.own.moves → Kept s id v own
       draws_none own caller same steps past mine_is drawing moves =
           rebuilt shape cover setup s u id v at present (set s.words 0 (n + 1)) wide u.records own (draw_step v n) drawn_fits caller same.answered same.guard same.notes steps grew
+          (keeps_retired setup.first u.records (draw_step v n) refl)
           (subst (λ (x : Memory). Places setup u.records (set u.books c own) x) (sym stored)
           (passed_places u.records u.books m c n v.own own u.places mine found past caller mine_is (ap overshoot_by drawing) (ap overshoot_by below)))
           (subst (Parts shape cover setup) (sym (outline_same m (memory setup.callers setup.records (set s.words 0 (n + 1))) u.taken_out u.updates (ap (λ (x : Memory). x.epoch) stored) (ap (λ (x : Memory). x.announced) stored) u.books c v.own own mine same u.records)) u.parts)

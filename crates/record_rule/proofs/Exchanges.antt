@@ -38,6 +38,7 @@ use Rattle.record_rule.specs.Locks.{LocksFit}
 use Rattle.record_rule.specs.LockedLinks.{IsUnlocked}
 use Rattle.record_rule.proofs.Lists.{below_at, map_set_same}
 use Rattle.record_rule.proofs.Rebuilt.{starts_itself, one_more, Steps, elsewhere, stepped, made_more}
+use Rattle.record_rule.proofs.Retirements.{LeavesRetirements, link_retires_none, same_records, same_then, shows_moved}
 use Rattle.record_rule.proofs.Quiet.{IsCalm, calm_after, places_calm}
 use Rattle.record_rule.proofs.Owners.{index_in}
 use Rattle.record_rule.proofs.HeldMoves.{has_recelled, held_relinked}
@@ -144,7 +145,7 @@ module _ (shape : ShapeFacts) (cover : CoverFacts) (setup : Setup) (is_setup : I
       stored_words = ap (λ (z : ℕ). memory setup.callers setup.records (set s.words z (link_word setup o new))) is
           ∙ stores setup.callers setup.records s.words (Field (index_of o) f) (link_word setup o new) u.wide (n.some_index, index_in shape cover setup s u id v at present (index_of o) n.node n.some_index n.there, high)
 
-      module _ (old : LinkParts) (old_is : link_in (get_or n.node.row f 0) ≡ old) (there : At records (index_of o - 1) n.node) (finds : StepFits setup c t) (other : ¬ (t.word ≡ Drawn))
+      module _ (old : LinkParts) (old_is : link_in (get_or n.node.row f 0) ≡ old) (there : At records (index_of o - 1) n.node) (finds : StepFits setup c t) (other : ¬ (t.word ≡ Drawn)) (retired : LeavesRetirements setup.first u.records records t)
           (more : StartsWith taken_out u.taken_out)
           (places : Places setup records (set u.books v.own.caller view_after.own) m) (counts : CountsFit setup.first records (set u.books v.own.caller view_after.own))
           (taken : TakenFits setup (map taken_cell records) taken_out)
@@ -282,10 +283,14 @@ module _ (shape : ShapeFacts) (cover : CoverFacts) (setup : Setup) (is_setup : I
           offers = map_set_same offer_of u.books c v.own view_after.own own_place refl k;
         }
 
+        -- the node shows as many retirements as before
+        retired_after : LeavesRetirements setup.first u.records (set records i r') t
+        retired_after = same_then setup.first u.records records (set records i r') t retired (shows_moved setup.first records i n.node r' there refl refl)
+
         -- A step that leaves the new link in the node's word keeps the rule, where what else it changed does
         pub leaves : Rule shape cover setup record { words = words'; homes = s.homes; views = set s.views id view_after }
         leaves = stepped shape cover setup s u id v view_after at present words' (length-set s.words word (link_word setup o new) ∙ u.wide) (set records i r') taken_out updates' more grown_by.more steps
-            t refl (elsewhere m.drawn m'.drawn t (ap (λ (x : Memory). x.drawn) stored_words) other) places_after
+            t refl (elsewhere m.drawn m'.drawn t (ap (λ (x : Memory). x.drawn) stored_words) other) retired_after places_after
             (subst (Parts shape cover setup) (sym now_is) record {
               taken = taken;
               held = held_after;
@@ -308,7 +313,9 @@ module _ (shape : ShapeFacts) (cover : CoverFacts) (setup : Setup) (is_setup : I
           w,
           leaves same holds new is_new call dec t mine locks u.records u.taken_out old old_is n.there
               (finds_held shape cover setup is_setup s u id v at present o n kind f (link_word v.setup o old) (link_word v.setup o new) (subst (λ (z : Setup). own_in (link_word z o old) ≡ generation_at setup o) (sym same) own_is)
-              (subst (λ (z : Setup). own_in (link_word z o new) ≡ generation_at setup o) (sym same) (own_in-packed_link (generation_at setup o) new is_new)) by) (λ e. cc) (starts_itself u.taken_out)
+              (subst (λ (z : Setup). own_in (link_word z o new) ≡ generation_at setup o) (sym same) (own_in-packed_link (generation_at setup o) new is_new)) by) (λ e. cc)
+              (link_retires_none setup.first u.records u.records t (index_of o) f refl low n.some_index n.node n.there
+              (let left = subst (λ (z : Setup). own_in (link_word z o new) ≡ generation_at setup o) (sym same) (own_in-packed_link (generation_at setup o) new is_new) in let node = n.generation in omega arith) (same_records setup.first u.records)) (starts_itself u.taken_out)
               (places_calm setup u.records u.books m c v.own w.own own_place refl refl (calm_after v.own.drawing v.setup.records t calm) u.places) (counts_calm setup.first u.records u.books c v.own w.own own_place u.counts refl) u.parts.taken u.parts.held u.parts.scheme
               (shaped.exchanges setup (shape_input was) (trace was) record { caller = c; number = length v.own.answered + 1; near = near_of v o; field = f; old = old; call = call } new (given shape cover setup s u)
               (node_with shape cover setup is_setup s u id v at present o n f old low old_is) is_new may) (locked (marked_after n.node.marked old new (length u.updates))),

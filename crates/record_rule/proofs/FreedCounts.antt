@@ -42,7 +42,7 @@ module _ (may : LimboRecord → Bool) (d : ℕ) where
       by false g = refl
       by true g = let none : Some (share_of Limbo r) ≡ None = sym (seen_by d Limbo r (went_at may d i r.place r g).0) ∙ e in let no : ⊥ = cc in absurd no
 
-  same_era : (i : ℕ) (r : Record) → (freed_record may d i r).generation ≡ r.generation
+  pub same_era : (i : ℕ) (r : Record) → (freed_record may d i r).generation ≡ r.generation
   same_era i r = by (goes_at may d i r.place r)
     where
       by : (b : Bool) → (cond b (record r { place = Of d (freed_standing r.generation) }) r).generation ≡ r.generation

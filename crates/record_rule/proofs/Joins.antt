@@ -12,11 +12,12 @@ use Rattle.record_memory.specs.declared.books.Book.{Book}
 use Rattle.row_words.specs.Refs.{RefParts}
 use Rattle.record_rule.specs.Facts.{At, ShapeFacts, CoverFacts}
 use Rattle.record_rule.specs.World.{carries, SeatFits, Rule}
-use Rattle.record_rule.specs.Splits.{longer, joined, spent}
+use Rattle.record_rule.specs.Splits.{longer, known_by, known_by_both, joined_with, joined, spent}
 use Rattle.record_rule.proofs.Lists.{one_at, at_append}
 use Rattle.record_rule.proofs.Recents.{recent_more}
 use Rattle.record_rule.proofs.Rebuilt.{carries_own, reviewed}
 use Rattle.record_rule.proofs.Seats.{starts_longer, length-longer, reseated}
+use Rattle.record_rule.proofs.Beginnings.{agree_in}
 
 -- what stood in seat `other` stands in seat `id`
 abbrev moved : ℕ → ℕ → ℕ → ℕ
@@ -53,9 +54,16 @@ module _ (setup : Setup) (books : List Book) (seats : List ℕ) (taken_out : Lis
   }
 
   module _ (v w : View) (present : v.present ≡ true) (f : SeatFits setup books seats taken_out updates id v) (g : SeatFits setup books seats taken_out updates other w) where
-    -- the joined pass carries the books of both
-    both_all : carries (joined v w) ≡ carries v ++ carries w
-    both_all = carries_own (joined v w) present ∙ sym (ap (λ l. l ++ carries w) (carries_own v present))
+    -- what the joined pass knows, as each two lists that begin the updates agree
+    abbrev both : View
+    both = joined_with (longer v.front w.front, longer v.seen_updates w.seen_updates) v w
+
+    known_is : known_by_both v w ≡ (longer v.front w.front, longer v.seen_updates w.seen_updates)
+    known_is k = known_by (agree_in updates v.front v.seen_updates f.front f.seen_updates k) (agree_in updates w.front w.seen_updates g.front g.seen_updates k) (agree_in updates v.front w.front f.front g.front k) v w
+
+    -- it carries the books of both
+    both_all : carries both ≡ carries v ++ carries w
+    both_all = carries_own both present ∙ sym (ap (λ l. l ++ carries w) (carries_own v present))
 
     -- the two passes carry books of different callers
     different : (p q : ℕ) (a b : Book) → get_elem? (carries v) p ≡ some a → get_elem? (carries w) q ≡ some b → a.caller ≢ b.caller
@@ -69,8 +77,8 @@ module _ (setup : Setup) (books : List Book) (seats : List ℕ) (taken_out : Lis
         (at_append (carries v) (carries w) p a ea)
 
     -- and fits
-    pub both_fits : SeatFits setup books seats' taken_out updates id (joined v w)
-    both_fits = record {
+    longer_fits : SeatFits setup books seats' taken_out updates id both
+    longer_fits = record {
       setup_is = f.setup_is;
       books_are = λ p b e. ⊎_elim (λ x. ((f.books_are p b x).0, from_else b.caller id (λ h. apart_seats (sym h)) (f.books_are p b x).1)) (λ x. ((g.books_are x.0 b x.2).0, from_other b.caller (g.books_are x.0 b x.2).1))
           (at_append (carries v) (carries w) p b (subst (λ l. At l p b) both_all e));
@@ -85,6 +93,10 @@ module _ (setup : Setup) (books : List Book) (seats : List ℕ) (taken_out : Lis
           ⊎_elim (λ x. recent_more (length v.seen_updates) n (length v.seen_taken_out) m b.guard b.notes l.0 k.0 (f.recent p b x)) (λ x. recent_more (length w.seen_updates) n (length w.seen_taken_out) m b.guard b.notes l.1 k.1 (g.recent x.0 b x.2))
           (at_append (carries v) (carries w) p b (subst (λ l. At l p b) both_all e));
     }
+
+    -- so the joined pass does
+    pub both_fits : SeatFits setup books seats' taken_out updates id (joined v w)
+    both_fits = subst (λ (z : List Update × List Update). SeatFits setup books seats' taken_out updates id (joined_with z v w)) (sym known_is) longer_fits
 
 module _ (shape : ShapeFacts) (cover : CoverFacts) (setup : Setup) where
   -- a pass takes in what another knows, and the other is spent

@@ -1,6 +1,8 @@
 pub mod Lists
 pub mod Rebuilt
 pub mod Counts
+pub mod Retirements
+pub mod RetirementMoves
 pub mod Quiet
 pub mod Safe
 pub mod Waiting
@@ -16,6 +18,7 @@ pub mod Owners
 pub mod OpeningWords
 pub mod Opens
 pub mod Seats
+pub mod Beginnings
 pub mod Joins
 pub mod HistoryMoves
 pub mod Meetings

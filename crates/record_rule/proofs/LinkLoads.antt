@@ -31,10 +31,11 @@ use Rattle.record_rule.specs.Kinds.{Lawful}
 use Rattle.record_rule.specs.Links.{roots_kept, Origin, from_place, index_of, generation_at, note_in, near_of, Holds, FitsBody, node_step, with_step, seeing, LoadedKey, noting, Saw, LoadedLink}
 use Rattle.record_rule.proofs.Lists.{map_set_same}
 use Rattle.record_rule.proofs.Rebuilt.{starts_itself, made_more, elsewhere, stepped}
+use Rattle.record_rule.proofs.Retirements.{MayLeave, leaving_calm, leaving_quiet, keeps_retired}
 use Rattle.record_rule.proofs.Safe.{safe}
 use Rattle.record_rule.proofs.Recents.{recent_started, recent_noting, held_started, known_started, step_started, words_started}
 use Rattle.record_rule.proofs.Counts.{counts_calm}
-use Rattle.record_rule.proofs.Quiet.{IsCalm, calm_after, places_calm}
+use Rattle.record_rule.proofs.Quiet.{calm_after, places_calm}
 use Rattle.record_rule.proofs.Steps.{before, given, book, are_whole, noted_within, recent_now, own_behind, kept_calm}
 use Rattle.record_rule.proofs.Nodes.{body_word, NodeOf, own_held, note_there, noted_there, node_of, node_with, found_word, found_link, found_own, node_finds}
 use Rattle.record_rule.proofs.Outlines.{each_held, held_noting, each_known, known_noting}
@@ -126,11 +127,11 @@ module _ (shape : ShapeFacts) (cover : CoverFacts) (setup : Setup) (s : State (U
     book_after t g notes roots = record (with_step v.own v.setup.records t) { guard = g; notes = notes; root_notes = roots }
 
     -- The rule after a load with which the caller came to hold and to know this
-    pub rule_after : (word : ℕ) (t : Step) → StepFits setup c t → ¬ (t.word ≡ Drawn) → (g : Guard) (notes : List Note) (roots : List (List ℕ)) → IsCalm t.kind → IsRecent (length u.updates) (length u.taken_out) g notes → g.announced ≡ v.own.guard.announced
+    pub rule_after : (word : ℕ) (t : Step) → StepFits setup c t → ¬ (t.word ≡ Drawn) → (g : Guard) (notes : List Note) (roots : List (List ℕ)) → MayLeave t.kind → IsRecent (length u.updates) (length u.taken_out) g notes → g.announced ≡ v.own.guard.announced
         → (v.own.guard.start_step ≤ length v.own.steps → g.start_step ≤ length (v.own.steps ++ t ∷ []))
         → HeldFits shape cover.places was.shapes u.taken_out g notes → KnownFits shape setup (shape_input was) u.updates g notes roots → ToldStart (start_of g) → cover.covered setup (with_guard (scheme_input was) c g)
         → Rule shape cover setup record { words = set s.words word (get_or s.words word 0); homes = s.homes; views = set s.views id (seeing v u.updates u.taken_out (book_after t g notes roots)) }
-    rule_after word t finds other g notes roots calm recent words started held known told covered = let f = u.seated id v at in let own : Book = record (book_after t g notes roots) { updates_seen = length u.updates } in
+    rule_after word t finds other g notes roots leaving recent words started held known told covered = let f = u.seated id v at in let own : Book = record (book_after t g notes roots) { updates_seen = length u.updates } in
         subst (λ (ws : List ℕ). Rule shape cover setup record { words = ws; homes = s.homes; views = set s.views id (seeing v u.updates u.taken_out (book_after t g notes roots)) }) (sym (set-get_or s.words word 0))
         (stepped shape cover setup s u id v (seeing v u.updates u.taken_out (book_after t g notes roots)) at present s.words u.wide u.records u.taken_out u.updates (starts_itself u.taken_out) (starts_itself u.updates) record {
           setup = refl;
@@ -147,8 +148,8 @@ module _ (shape : ShapeFacts) (cover : CoverFacts) (setup : Setup) (s : State (U
           start_made = started;
           made = λ h. made_more setup c v.own.steps t finds h;
         }
-        t refl (elsewhere m.drawn m.drawn t refl other)
-        (places_calm setup u.records u.books m c v.own own own_there refl refl (calm_after v.own.drawing v.setup.records t calm) u.places)
+        t refl (elsewhere m.drawn m.drawn t refl other) (keeps_retired setup.first u.records t (leaving_quiet t.kind leaving))
+        (places_calm setup u.records u.books m c v.own own own_there refl refl (calm_after v.own.drawing v.setup.records t (leaving_calm t.kind leaving)) u.places)
         (subst (Parts shape cover setup) (outline_held m u.records u.books c v.own own u.taken_out u.updates own_there refl refl refl) (held_parts g notes roots recent.updates_since words held known told covered)) (counts_calm setup.first u.records u.books c v.own own own_there u.counts refl))
 
     module _ (is_setup : IsSetup setup) (o : Origin) where

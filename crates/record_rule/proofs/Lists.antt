@@ -36,6 +36,13 @@ module _ {A : Type 0} where
   pub each_set : (P : ℕ → A → Type 0) (l : List A) (i : ℕ) (a : A) → ((j : ℕ) (b : A) → get_elem? l j ≡ some b → P j b) → P i a → (j : ℕ) (b : A) → get_elem? (set l i a) j ≡ some b → P j b
   each_set P l i a each here j b e = ⊎_elim (λ t. subst (λ (z : ℕ). P z b) (sym t.0) (subst (P i) t.1 here)) (λ t. each j b t.1) (at_set l i j a b e)
 
+  -- what is so of each entry, after one more of which it is so
+  pub each_more : (P : A → Type 0) (l : List A) (a : A) → P a → ((n : ℕ) (b : A) → get_elem? l n ≡ some b → P b) → (n : ℕ) (b : A) → get_elem? (l ++ a ∷ []) n ≡ some b → P b
+  each_more P [] a last h zero b e = subst P (some-injective a b e) last
+  each_more P [] a last h (suc n) b e = absurd (some-ne-none b (sym e))
+  each_more P (x ∷ xs) a last h zero b e = h 0 b e
+  each_more P (x ∷ xs) a last h (suc n) b e = each_more P xs a last (λ i c d. h (suc i) c d) n b e
+
   -- a fact of the entry at an index, after one was set
   pub got_set : (P : A → Type 0) (l : List A) (i j : ℕ) (a d : A) → i < length l → (j ≡ i → P a) → (j ≢ i → P (get_or l j d)) → P (get_or (set l i a) j d)
   got_set P l i j a d within here else = dite (ℕ_discrete j i) (λ e. subst P (sym (ap (λ (k : ℕ). get_or (set l i a) k d) e ∙ get_or-set_same l i a d within)) (here e)) (λ ne. subst P (sym (get_or-set_other l i j a d ne)) (else ne))

@@ -1,8 +1,8 @@
 -- A front goes from one pass to another by a message, and no fact about the table changes.
-use Rattle.std.proofs.Common.{◌≡◌, ℕ, List, [], ◌∷◌, ◌++◌, length, length-append, ◌≤◌, get_or, drop, set, Bool, true, false, not, cond, sym, refl, ap, ◌∙◌, subst, arith, ◌⊎◌, inl, inr, ⊎_elim}
+use Rattle.std.proofs.Common.{◌≡◌, ℕ, List, [], ◌∷◌, ◌++◌, length, ◌≤◌, get_or, set, Bool, true, false, sym, refl, ap, ◌∙◌, subst, arith, inl, inr, ⊎_elim}
 use Rattle.std.proofs.lemmas.List.{set-get_or}
-use Rattle.std.proofs.lemmas.Bool.{true≢false, and_parts, and_from, eqb-true, eq-eqb, both_ways}
-use mathlib.Core.Option.{some, some-injective, some-ne-none}
+use Rattle.std.proofs.lemmas.Bool.{true≢false, both_ways}
+use mathlib.Core.Option.{some, some-ne-none}
 use lib.ListN.{get_elem?}
 use Rattle.atomic_table.specs.Table.{Me, Allows, Splits, Joins, keeps}
 use Rattle.atomic_table.proofs.Lists.{at_set, set_else}
@@ -14,72 +14,12 @@ use Rattle.row_words.specs.Refs.{RefParts}
 use Rattle.record_rule.specs.Facts.{ShapeFacts, CoverFacts}
 use Rattle.record_rule.specs.World.{StartsWith, carries, SeatFits, Rule}
 use Rattle.record_rule.specs.Splits.{spent}
-use Rattle.record_rule.specs.Meetings.{message, same_update, begins, heard_by, heard, IsOneHistory, HasMet}
+use Rattle.record_rule.specs.Beginnings.{begins, IsOneHistory}
+use Rattle.record_rule.specs.Meetings.{message, heard_by, heard, HasMet}
 use Rattle.record_rule.proofs.Lists.{get_at}
+use Rattle.record_rule.proofs.Beginnings.{one_begins, starts_long, begins_true, begins_from}
 use Rattle.record_rule.proofs.Rebuilt.{carries_own, starts_itself, reviewed}
 use Rattle.record_rule.proofs.Seats.{at_end}
-
-module _ {A : Type 0} where
-  -- two equal lists have one head
-  heads : (x y : A) (xs ys : List A) → x ∷ xs ≡ y ∷ ys → x ≡ y
-  heads x y xs ys e = some-injective x y (ap (λ (l : List A). get_elem? l 0) e)
-
-  -- and one tail
-  tails : (x y : A) (xs ys : List A) → x ∷ xs ≡ y ∷ ys → xs ≡ ys
-  tails x y xs ys e = ap (λ (l : List A). drop 1 l) e
-
-  -- one more entry before both
-  starts_cons : (x y : A) (xs ys : List A) → x ≡ y → StartsWith ys xs → StartsWith (y ∷ ys) (x ∷ xs)
-  starts_cons x y xs ys e p = (p.0, (λ k. sym e k ∷ p.1 k))
-
-  -- of two beginnings of one list, one begins the other
-  pub one_begins : (whole xs ys : List A) → StartsWith whole xs → StartsWith whole ys → StartsWith ys xs ⊎ StartsWith xs ys
-  one_begins whole [] ys p q = inl (ys, refl)
-  one_begins whole (x ∷ xs) [] p q = inr (x ∷ xs, refl)
-  one_begins [] (x ∷ xs) (y ∷ ys) p q = let e = ap length p.1 in absurd (omega arith)
-  one_begins (w ∷ ws) (x ∷ xs) (y ∷ ys) p q = let same : x ≡ y = sym (heads w x ws _ p.1) ∙ heads w y ws _ q.1 in
-      ⊎_elim (λ t. inl (starts_cons x y xs ys same t)) (λ t. inr (starts_cons y x ys xs (sym same) t)) (one_begins ws xs ys (p.0, tails w x ws _ p.1) (q.0, tails w y ws _ q.1))
-
-  -- a beginning is no longer than the whole
-  starts_long : (whole xs : List A) → StartsWith whole xs → length xs ≤ length whole
-  starts_long whole xs p = let e = ap length p.1 in let l = length-append xs p.0 in omega arith
-
--- two booleans that pass the test are one
-same_bool : (a b : Bool) → cond a b (not b) ≡ true → a ≡ b
-same_bool true true e = refl
-same_bool true false e = sym e
-same_bool false true e = e
-same_bool false false e = refl
-
--- each passes it with itself
-bool_itself : (a : Bool) → cond a a (not a) ≡ true
-bool_itself true = refl
-bool_itself false = refl
-
--- two updates that pass the test are one
-same_true : (a b : Update) → same_update a b ≡ true → a ≡ b
-same_true a b e = let p = and_parts _ _ e in let q = and_parts _ _ p.1 in let r = and_parts _ _ q.1 in
-    let c = eqb-true a.caller b.caller p.0 in let n = eqb-true a.number b.number q.0 in let k = eqb-true a.key b.key r.0 in let d = same_bool a.added b.added r.1 in
-    λ i. record { caller = c i; number = n i; key = k i; added = d i }
-
--- and each passes it with itself
-same_itself : (a : Update) → same_update a a ≡ true
-same_itself a = and_from _ _ (eq-eqb a.caller a.caller refl) (and_from _ _ (eq-eqb a.number a.number refl) (and_from _ _ (eq-eqb a.key a.key refl) (bool_itself a.added)))
-
--- a list that passes the test begins the other
-begins_true : (xs ys : List Update) → begins xs ys ≡ true → StartsWith ys xs
-begins_true [] ys e = (ys, refl)
-begins_true (x ∷ xs) [] e = absurd (true≢false (sym e))
-begins_true (x ∷ xs) (y ∷ ys) e = let p = and_parts _ _ e in starts_cons x y xs ys (same_true x y p.0) (begins_true xs ys p.1)
-
--- a list passes it with each longer one
-begins_whole : (xs rest : List Update) → begins xs (xs ++ rest) ≡ true
-begins_whole [] rest = refl
-begins_whole (x ∷ xs) rest = and_from _ _ (same_itself x) (begins_whole xs rest)
-
--- so each beginning passes it
-begins_from : (xs ys : List Update) → StartsWith ys xs → begins xs ys ≡ true
-begins_from xs ys p = ap (begins xs) p.1 ∙ begins_whole xs p.0
 
 -- what a pass has after it took up a front, by the two tests
 has_met : (b c : Bool) (v : View) (front : List Update) → begins v.front front ≡ b → begins front v.front ≡ c → IsOneHistory (heard_by b c v front) → HasMet v front (heard_by b c v front)

@@ -23,7 +23,8 @@ use Rattle.record_rule.specs.Taken.{generation_of}
 use Rattle.record_rule.specs.Held.{HeldFits}
 use Rattle.record_rule.specs.Known.{KnownFits}
 use Rattle.std.proofs.lemmas.List.Sums.{sum_by-cons, sum_by-append}
-use Rattle.record_rule.specs.Counts.{lives_before, was_drawn, times_retired, times_freed, drawn_by, reused_by, retired_by, freed_by, CountsFit}
+use Rattle.record_rule.specs.Counts.{retired_as, lives_before, was_drawn, times_retired, times_freed, drawn_by, reused_by, retired_by, freed_by, CountsFit}
+use Rattle.record_rule.specs.Retirements.{retirements, retired_at, RetirementsFit}
 use Rattle.record_rule.specs.World.{IsRecent, AreUntouched, carries, BookFits, SeatFits, Places, Parts, Rule}
 use Rattle.record_rule.specs.Opening.{opening_words, first_book, first_books, first_view, blank_note, root_record, blank_record, opening_records, opening_books}
 use Rattle.record_rule.specs.Locks.{LocksFit}
@@ -31,6 +32,8 @@ use Rattle.record_memory.specs.declared.books.LockedWord.{LockedWord}
 use Rattle.record_rule.proofs.Locks.{none_locked}
 use Rattle.record_rule.proofs.Waiting.{none_waits}
 use Rattle.record_rule.proofs.Lists.{map_at, map-replicate, at_replicate, replicate_at, at_runs}
+use Rattle.record_rule.proofs.Retirements.{none_there}
+use Rattle.record_rule.proofs.RetirementMoves.{never_retired}
 pub use Rattle.record_rule.proofs.OpeningWords.{wide_is}
 use Rattle.record_rule.proofs.OpeningWords.{root_sound, blank_sound, at_books, books_at, length-books, map_books, rest, zero_at, rows_are, left_opening, left_roots, mine_is}
 
@@ -291,6 +294,18 @@ module _ (setup : Setup) (ok : IsSetup setup) (first : Guard) where
       freed = nothing_by freed_by (λ c. refl) 0 setup.callers ∙ sym (nothing_as (times_freed setup.first) (omega arith) (omega arith));
     }
 
+    -- nor retired
+    opening_retired : (k g : ℕ) (r : Record) → At (opening_records setup) k r → retired_at setup.first g r ≡ 0
+    opening_retired k g r e = let unborn : (x : Record) → x.generation ≤ setup.first → retired_as x.place ≡ 0 → x ≡ r → retired_at setup.first g r ≡ 0 = λ x young now is. ap (retired_at setup.first g) (sym is) ∙ never_retired setup.first g x young now in
+        ⊎_elim (λ a. unborn (root_record setup.first) (omega arith) refl a.1) (λ b. unborn (blank_record setup.first) (omega arith) refl b.1) (at_runs setup.roots (setup.records - setup.roots) k (root_record setup.first) (blank_record setup.first) r e)
+
+    opening_retirements : RetirementsFit setup.first (opening_records setup) (opening_books setup first)
+    opening_retirements = record {
+      some_first = ok.some_first;
+      stored = λ c b e n t at. let x = at_books setup first 0 setup.callers c b e in let z : At {A = _} [] n t = ap (λ (w : Book). get_elem? w.steps n) x.1 ∙ at in let none : ⊥ = cc in absurd none;
+      each = λ k g. nothing_by (retirements (k + 1) g) (λ c. refl) 0 setup.callers ∙ sym (none_there setup.first g (opening_records setup) k (opening_retired k g));
+    }
+
     -- so the rule holds
     opens_with : Rule shape cover setup (opening (opening_words setup) [] (first_view first setup))
     opens_with = record {
@@ -305,6 +320,7 @@ module _ (setup : Setup) (ok : IsSetup setup) (first : Guard) where
       places = opening_places;
       parts = opening_parts;
       counts = opening_counts;
+      retirements = opening_retirements;
       start_made = λ c b e. let x = at_books setup first 0 setup.callers c b e in let z = ap (λ (w : Book). w.guard.start_step) x.1 in let n = ap (λ (g : Guard). g.start_step) is_first in let k = covering.unstarted.2 in omega arith;
       made = λ c b e n t at. let x = at_books setup first 0 setup.callers c b e in let z : At {A = _} [] n t = ap (λ (w : Book). get_elem? w.steps n) x.1 ∙ at in let none : ⊥ = cc in absurd none;
       seen = λ c b e n t at. let x = at_books setup first 0 setup.callers c b e in let z : At {A = _} [] n t = ap (λ (w : Book). get_elem? w.steps n) x.1 ∙ at in let none : ⊥ = cc in absurd none;

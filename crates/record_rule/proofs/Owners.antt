@@ -1,6 +1,6 @@
 -- The owner's loads and stores in a record keep the rule.
-use Rattle.std.proofs.Common.{inl, ◌≡◌, ℕ, zero, suc, ◌⊎◌, ⊎_elim, ltb, false, ◌+◌, ◌-◌, ◌<◌, ◌≤◌, List, [], map, length, get_or, take, set, length-set, Bool, true, cond, sym, refl, ap, ◌∙◌, subst, arith, Option, Some, get_or-set_other, inr}
-use Rattle.std.proofs.lemmas.Bool.{eq-eqb}
+use Rattle.std.proofs.Common.{inl, ◌≡◌, ◌≢◌, ℕ, zero, suc, ◌⊎◌, ⊎_elim, ltb, false, ◌+◌, ◌-◌, ◌<◌, ◌≤◌, List, [], map, length, get_or, take, set, length-set, Bool, true, cond, sym, refl, ap, ◌∙◌, subst, arith, Option, Some, get_or-set_other, inr}
+use Rattle.std.proofs.lemmas.Bool.{eq-eqb, le-ltb}
 use Rattle.std.proofs.lemmas.List.{get_or-take, length-take}
 use native.Mathlib.Decide.{dec_le}
 use mathlib.Core.Logic.{dite}
@@ -8,6 +8,7 @@ use mathlib.Core.Option.{some}
 use lib.ListN.{get_elem?}
 use Rattle.atomic_table.proofs.Lists.{at_map}
 use Rattle.atomic_table.specs.Table.{State}
+use Rattle.record_memory.specs.declared.steps.Step.{Step}
 use Rattle.record_memory.specs.declared.steps.Word.TheVariants.{Field}
 use Rattle.record_memory.specs.declared.books.Setup.{Setup}
 use Rattle.record_memory.specs.declared.books.View.{View}
@@ -15,7 +16,7 @@ use Rattle.record_memory.specs.declared.books.Share.{Share}
 use Rattle.record_memory.specs.declared.books.Standing.{Standing}
 use Rattle.record_memory.specs.declared.books.Standing.TheVariants.{Handing, Own, Spare, TakenOut, Limbo, Free, Spent}
 use Rattle.record_memory.specs.declared.books.Place.{Place}
-use Rattle.record_memory.specs.declared.books.Place.TheVariants.{Root, Of}
+use Rattle.record_memory.specs.declared.books.Place.TheVariants.{Undrawn, Root, Of}
 use Rattle.record_memory.specs.Memory.{Memory, memory, address, word_at, put, row_at}
 use Rattle.record_memory.proofs.Stores.{loads, stores, word_at-field}
 use Rattle.row_words.specs.Packing.{number_in, own_in, IsPackedLink}
@@ -28,8 +29,11 @@ use Rattle.record_rule.specs.World.{Places, Parts, Rule}
 use Rattle.record_rule.specs.Kinds.{field_store, field_load, stored_as, stored, loaded, share_in, share_after, standing_after, EndsHanding, MayStoreAs, MayStore, IsKnownAs, IsKnown, IsOverAs, IsOver, Lawful}
 use Rattle.record_rule.proofs.Lists.{below_at, get_at, map_at}
 use Rattle.record_rule.proofs.Owned.{at_some, share_of, has}
-use Rattle.record_rule.proofs.Counts.{counts_moved, balances_stored}
+use Rattle.record_rule.specs.Counts.{retired_as}
+use Rattle.record_rule.proofs.Counts.{counts_moved, balances_stored, stored_had}
 use Rattle.record_rule.proofs.Rebuilt.{not_held, elsewhere, rebuilt}
+use Rattle.record_rule.proofs.Retirements.{LeavesRetirements, stored_none, shows_moved, stored_here}
+use Rattle.record_rule.proofs.RetirementMoves.{beside_stamp, over_other}
 use Rattle.record_rule.proofs.Quiet.{calm_after, IsSameBook, outline_scheme, outline_after}
 use Rattle.record_rule.proofs.Steps.{before, book, kept_calm}
 use Rattle.record_rule.proofs.Safe.{safe}
@@ -76,6 +80,12 @@ carried_or_next (Handing n) generation f = by (ltb f n) generation
     by false (suc g) = inr (omega arith)
 carried_or_next q generation f = inl refl
 
+-- its owner stores its stamp only while it is handed out, over the generation before
+stamp_store : (q : Standing) (generation f : ℕ) → MayStoreAs q f → (f ≢ 2) ⊎ (carried_by q generation f ≡ generation - 1)
+stamp_store (Handing n) generation f may = inr (ap (λ (b : Bool). cond b generation (generation - 1)) (le-ltb f n (omega arith)))
+stamp_store Own f generation may = inl (λ e. ⊎_elim (λ a. omega arith) (λ a. let low = a.0 in omega arith) may)
+stamp_store q generation f may = inl (λ e. omega arith)
+
 -- once it is handed out, it has the birth that it was given
 ended_cell : (c : ℕ) (q : Standing) (r : Record) (f value : ℕ) → EndsHanding q → MayStoreAs q f → scheme_cell (with_word c (standing_after q) r f value) ≡ unpublished c r.generation (number_in (get_or r.row 0 0))
 ended_cell c (Handing n) r f value e h = ap (λ (b : Bool). scheme_had c (cond b Own (Handing (n + 1))) (with_word c (cond b Own (Handing (n + 1))) r f value)) (eq-eqb n 7 e)
@@ -118,13 +128,17 @@ module _ (shape : ShapeFacts) (cover : CoverFacts) (setup : Setup) (s : State (U
     λ root. let same : i ≡ j = cc in let pos : 0 < j = root.0 in let low : j ≤ setup.roots = root.1 in let high : setup.roots < i = above_roots i q r (omega arith) there is in let wrong : ⊥ = omega arith in absurd wrong,
   ))
 
+  -- a store over what its caller knows of a word finds the generation that the record carries there
+  found_carried : (i f : ℕ) (h : Share) (r : Record) → get_elem? u.records (i - 1) ≡ some r → r.place ≡ Of c h.standing → h ≡ share_of h.standing r → f < 8 → f < length (known h.standing r.row) → own_in (get_or h.words f 0) ≡ carried_by h.standing r.generation f
+  found_carried i f h r there is whole below within = ap (λ (x : Share). own_in (get_or x.words f 0)) whole ∙ ap own_in (sym (known_part h.standing r.row f within))
+      ∙ (u.places.sound (i - 1) r there).generations f below ∙ ap (λ (p : Place). carried p r.generation f) is
+
   -- and so is a store over what its caller knows of a word of it
   pub store_fits : (i f value : ℕ) (h : Share) (r : Record) → 0 < i → get_elem? u.records (i - 1) ≡ some r → r.place ≡ Of c h.standing → h ≡ share_of h.standing r → f < 8 → f < length (known h.standing r.row) → own_in value ≡ h.generation
       → StepFits setup c (field_store v i f value h)
   store_fits i f value h r pos there is whole below within own = let high : setup.roots < i = above_roots i h.standing r pos there is in
       let left : own_in value ≡ r.generation = own ∙ ap (λ (x : Share). x.generation) whole in
-      let found : own_in (get_or h.words f 0) ≡ carried_by h.standing r.generation f = ap (λ (x : Share). own_in (get_or x.words f 0)) whole ∙ ap own_in (sym (known_part h.standing r.row f within))
-      ∙ (u.places.sound (i - 1) r there).generations f below ∙ ap (λ (p : Place). carried p r.generation f) is in
+      let found = found_carried i f h r there is whole below within in
       not_held setup c (field_store v i f value h) refl (inr (inl refl)) (λ j g e. inl (
         let same : i ≡ j = cc in omega arith,
         ⊎_elim (λ a. inl (left ∙ a ∙ sym found)) (λ a. inr (left ∙ a ∙ ap (λ (z : ℕ). z + 1) (sym found))) (carried_or_next h.standing r.generation f),
@@ -195,10 +209,22 @@ module _ (shape : ShapeFacts) (cover : CoverFacts) (setup : Setup) (s : State (U
     announced_is : (memory setup.callers setup.records (words_after i f value)).announced ≡ m.announced
     announced_is = ap (λ (x : Memory). x.announced) stored_words
 
+    -- a store in the stamp is one of a handing out, and changes the generation, so it retires none
+    retires_none_here : LeavesRetirements setup.first u.records (set u.records (i - 1) new) (field_store v i f value h)
+    retires_none_here = let x : Step = field_store v i f value h in let sound = u.places.sound (i - 1) r there in
+        let born : setup.first ≤ r.generation = sound.born (λ q. let none : Undrawn ≡ Of c h.standing = sym q ∙ is in let no_such : ⊥ = cc in no_such) in let first = u.retirements.some_first in
+        let left : own_in value ≡ r.generation = may.own ∙ generation_is in
+        let found = found_carried i f h r there is whole may.below (stored_part h.standing r.row f sound.eight may.field may.below) in
+        stored_none setup.first u.records (set u.records (i - 1) new) x
+        (⊎_elim (beside_stamp i f x refl refl refl) (λ before. over_other i f x refl refl refl (λ e. omega arith)) (stamp_store h.standing r.generation f may.field))
+        (stored_here setup.first u.records (i - 1) r new there x i pos refl (λ j g e. let z : i ≡ j = cc in z) left)
+        (shows_moved setup.first u.records (i - 1) r new there refl ((stored_had h.standing).0 ∙ sym (ap retired_as is)))
+
     -- so the rule stays where the facts hold
     kept_with : Parts shape cover setup now → Kept i f value h
     kept_with parts = rebuilt shape cover setup s u id v at present (words_after i f value) (length-set s.words (address setup.callers (Field i f)) value ∙ u.wide) (set u.records (i - 1) new) (after i f value h).own _
-        (store_fits i f value h r pos there is whole may.below (stored_part h.standing r.row f (u.places.sound (i - 1) r there).eight may.field may.below) may.own) refl refl refl refl refl (elsewhere m.drawn _ _ (ap (λ (x : Memory). x.drawn) stored_words) (λ e. cc)) places_after parts
+        (store_fits i f value h r pos there is whole may.below (stored_part h.standing r.row f (u.places.sound (i - 1) r there).eight may.field may.below) may.own) refl refl refl refl refl (elsewhere m.drawn _ _ (ap (λ (x : Memory). x.drawn) stored_words) (λ e. cc))
+        retires_none_here places_after parts
         (counts_moved setup.first u.records u.books c v.own (after i f value h).own own_there u.counts (i - 1) r new there (balances_stored setup.first c h.standing v.own.moves r new is refl refl))
 
     -- the store that ends a handing out

@@ -38,6 +38,7 @@ use Rattle.record_rule.specs.LockedLinks.{IsUnlocked}
 use Rattle.record_rule.specs.Recorded.{LeavesLink}
 use Rattle.record_rule.proofs.Lists.{one_at, map_set_same}
 use Rattle.record_rule.proofs.Rebuilt.{starts_itself}
+use Rattle.record_rule.proofs.Retirements.{link_retires_none, shows_moved}
 use Rattle.record_rule.proofs.Quiet.{IsCalm, calm_after}
 use Rattle.record_rule.proofs.Owners.{record_of}
 use Rattle.record_rule.proofs.Safe.{safe}
@@ -166,7 +167,9 @@ module _ (shape : ShapeFacts) (cover : CoverFacts) (setup : Setup) (is_setup : I
             w,
             leaves shape cover setup is_setup s u id v at present o n word f is low high same holds new is_new call dec t mine locks records u.taken_out old old_is node_there
                 (finds_held shape cover setup is_setup s u id v at present o n kind f (link_word v.setup o old) (link_word v.setup o new) (subst (λ (z : Setup). own_in (link_word z o old) ≡ generation_at setup o) (sym same) own_is)
-                (subst (λ (z : Setup). own_in (link_word z o new) ≡ generation_at setup o) (sym same) (own_in-packed_link (generation_at setup o) new is_new)) by) (λ e. cc) (starts_itself u.taken_out)
+                (subst (λ (z : Setup). own_in (link_word z o new) ≡ generation_at setup o) (sym same) (own_in-packed_link (generation_at setup o) new is_new)) by) (λ e. cc)
+                (link_retires_none setup.first u.records records t (index_of o) f refl low n.some_index n.node node_there
+                (let left = subst (λ (z : Setup). own_in (link_word z o new) ≡ generation_at setup o) (sym same) (own_in-packed_link (generation_at setup o) new is_new) in let node = n.generation in omega arith) (shows_moved setup.first u.records k q q' x.there refl (sym (ap retired_as x.place)))) (starts_itself u.taken_out)
                 (published_places setup u.records u.books m c k v.own w.own q u.places (book shape cover setup s u id v at present) x.there x.place refl refl (calm_after v.own.drawing v.setup.records t calm))
                 (counts_moved setup.first u.records u.books c v.own w.own (book shape cover setup s u id v at present) u.counts k q q' x.there
                 (balances_same setup.first v.own.moves v.own.moves q q' refl refl refl refl refl (sym (ap drawn_as x.place)) (sym (ap retired_as x.place)) (sym (ap freed_as x.place)))) taken (held is_ref) (scheme covering)

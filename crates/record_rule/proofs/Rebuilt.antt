@@ -1,7 +1,7 @@
 -- The rule after a step: what a seat's view has to do with the books, and the rule put together from its parts.
 use Rattle.std.proofs.Common.{◌≡◌, ◌≢◌, ℕ, zero, suc, ◌≤◌, List, [], ◌∷◌, ◌++◌, length, length-append, set, Bool, true, sym, refl, ap, ◌∙◌, subst, arith, ⊎_elim, Some, None, inl}
 use Rattle.std.proofs.lemmas.List.{append-nil, append_assoc}
-use mathlib.Core.Option.{some, some-injective, some-ne-none}
+use mathlib.Core.Option.{some, some-injective}
 use Rattle.row_words.specs.Refs.{RefParts}
 use lib.ListN.{get_elem?}
 use Rattle.atomic_table.specs.Table.{State}
@@ -26,8 +26,9 @@ use Rattle.record_rule.specs.Recorded.{IsStepOn, LeavesWord, StepFits, FoundWith
 use Rattle.record_memory.specs.declared.steps.Word.{Word}
 use Rattle.record_memory.specs.declared.steps.Word.TheVariants.{Drawn, Epoch, Lock, Blank, Shelf, Announced, Cursor, Field}
 use Rattle.record_memory.specs.declared.steps.StepKind.TheVariants.{Load}
-use Rattle.record_rule.proofs.Lists.{below_at, each_set, one_at}
+use Rattle.record_rule.proofs.Lists.{below_at, each_set, each_more, one_at}
 use Rattle.record_rule.proofs.Recents.{recent_more}
+use Rattle.record_rule.proofs.Retirements.{LeavesRetirements, retirements_more}
 
 -- the view with another book of its own caller
 abbrev with_own : View → Book → View
@@ -137,13 +138,6 @@ module _ (setup : Setup) (books : List Book) (seats : List ℕ) (taken_out taken
       (λ t. other_seat id j w v.own.caller x.own (own_book setup books seats taken_out updates id v here mine).1 t.0 (all j w t.1))
       (at_set views id j x w e)
 
--- what is so of each step, after one more of which it is so
-each_more : (P : Step → Type 0) (steps : List Step) (step : Step) → P step → ((n : ℕ) (t : Step) → At steps n t → P t) → (n : ℕ) (t : Step) → At (steps ++ step ∷ []) n t → P t
-each_more P [] step last h zero t e = subst P (some-injective step t e) last
-each_more P [] step last h (suc n) t e = absurd (some-ne-none t (sym e))
-each_more P (x ∷ xs) step last h zero t e = h 0 t e
-each_more P (x ∷ xs) step last h (suc n) t e = each_more P xs step last (λ i a b. h (suc i) a b) n t e
-
 -- each step found what it should, after one more that did
 pub made_more : (setup : Setup) (c : ℕ) (steps : List Step) (step : Step) → StepFits setup c step → ((n : ℕ) (t : Step) → At steps n t → StepFits setup c t) → (n : ℕ) (t : Step) → At (steps ++ step ∷ []) n t → StepFits setup c t
 made_more setup c steps step finds = each_more (StepFits setup c) steps step finds
@@ -208,6 +202,7 @@ module _ (shape : ShapeFacts) (cover : CoverFacts) (setup : Setup) where
     places = u.places;
     parts = u.parts;
     counts = u.counts;
+    retirements = u.retirements;
     start_made = u.start_made;
     made = u.made;
     seen = u.seen;
@@ -217,11 +212,11 @@ module _ (shape : ShapeFacts) (cover : CoverFacts) (setup : Setup) where
   -- The rule after a step of the pass in seat id, which knew v and then knows w
   pub stepped : (t : State (Unit {0}) View) (u : Rule shape cover setup t) (id : ℕ) (v w : View) → get_elem? t.views id ≡ some v → v.present ≡ true
       → (ws : List ℕ) → length ws ≡ size setup.callers setup.records → (records : List Record) (taken_out : List RefParts) (updates : List Update) → StartsWith taken_out u.taken_out → StartsWith updates u.updates → Steps setup taken_out updates v w
-      → (step : Step) → w.own.steps ≡ v.own.steps ++ step ∷ [] → LeavesDrawn (read t.words).drawn (read ws).drawn step
+      → (step : Step) → w.own.steps ≡ v.own.steps ++ step ∷ [] → LeavesDrawn (read t.words).drawn (read ws).drawn step → LeavesRetirements setup.first u.records records step
       → Places setup records (set u.books v.own.caller w.own) (read ws)
       → Parts shape cover setup (outline (read ws) records (set u.books v.own.caller w.own) taken_out updates) → CountsFit setup.first records (set u.books v.own.caller w.own)
       → Rule shape cover setup record { words = ws; homes = t.homes; views = set t.views id w }
-  stepped t u id v w at here ws wide records taken_out updates more_taken_out more_updates s step steps drawn places parts counts = record {
+  stepped t u id v w at here ws wide records taken_out updates more_taken_out more_updates s step steps drawn retires places parts counts = record {
     records = records;
     books = set u.books v.own.caller w.own;
     seats = u.seats;
@@ -233,6 +228,7 @@ module _ (shape : ShapeFacts) (cover : CoverFacts) (setup : Setup) where
     places = places;
     parts = parts;
     counts = counts;
+    retirements = retirements_more setup.first u.records records u.books v.own.caller v.own w.own step (own_book setup u.books u.seats u.taken_out u.updates id v here (u.seated id v at)).0 steps retires u.retirements;
     start_made = each_set (λ c b. b.guard.start_step ≤ length b.steps) u.books v.own.caller w.own u.start_made (s.start_made (u.start_made v.own.caller v.own (own_book setup u.books u.seats u.taken_out u.updates id v here (u.seated id v at)).0));
     made = each_set (λ c b. (n : ℕ) (t : Step) → At b.steps n t → StepFits setup c t) u.books v.own.caller w.own u.made (s.made (u.made v.own.caller v.own (own_book setup u.books u.seats u.taken_out u.updates id v here (u.seated id v at)).0));
     seen = let now : ℕ = (read ws).drawn in let more : (c : ℕ) (b : Book) → At u.books c b → (n : ℕ) (x : Step) → At b.steps n x → FoundWithin now x = λ c b e n x i on. let h = u.seen c b e n x i on in let g = drawn.grows in omega arith in
@@ -244,11 +240,11 @@ module _ (shape : ShapeFacts) (cover : CoverFacts) (setup : Setup) where
   -- the same after a step that changes nothing but words, records and the book of its caller, which answers no call
   pub rebuilt : (t : State (Unit {0}) View) (u : Rule shape cover setup t) (id : ℕ) (v : View) → get_elem? t.views id ≡ some v → v.present ≡ true
       → (ws : List ℕ) → length ws ≡ size setup.callers setup.records → (records : List Record) (own : Book) (step : Step) → StepFits setup v.own.caller step → own.caller ≡ v.own.caller → own.answered ≡ v.own.answered → own.guard ≡ v.own.guard → own.notes ≡ v.own.notes
-      → own.steps ≡ v.own.steps ++ step ∷ [] → LeavesDrawn (read t.words).drawn (read ws).drawn step
+      → own.steps ≡ v.own.steps ++ step ∷ [] → LeavesDrawn (read t.words).drawn (read ws).drawn step → LeavesRetirements setup.first u.records records step
       → Places setup records (set u.books v.own.caller own) (read ws)
       → Parts shape cover setup (outline (read ws) records (set u.books v.own.caller own) u.taken_out u.updates) → CountsFit setup.first records (set u.books v.own.caller own)
       → Rule shape cover setup record { words = ws; homes = t.homes; views = set t.views id (with_own v own) }
-  rebuilt t u id v at here ws wide records own step finds same calls guard notes steps drawn places parts counts = let f = u.seated id v at in
+  rebuilt t u id v at here ws wide records own step finds same calls guard notes steps drawn retires places parts counts = let f = u.seated id v at in
       stepped t u id v (with_own v own) at here ws wide records u.taken_out u.updates (starts_itself u.taken_out) (starts_itself u.updates) record {
         setup = refl;
         present = here;
@@ -263,4 +259,4 @@ module _ (shape : ShapeFacts) (cover : CoverFacts) (setup : Setup) where
         behind = λ n a h. f.behind 0 n v.own a (ap (λ (l : List Book). get_elem? l 0) (carries_own v here)) (ap (λ l. get_elem? l n) (sym calls) ∙ h);
         made = λ h n a e. made_more setup v.own.caller v.own.steps step finds h n a (ap (λ l. get_elem? l n) (sym steps) ∙ e);
         start_made = λ h. subst (λ (z : ℕ × ℕ). z.0 ≤ z.1) (λ k. (sym (ap (λ (g : Guard). g.start_step) guard) k, sym (ap length steps) k)) (one_more v.own.guard.start_step v.own.steps step h);
-      } step steps drawn places parts counts
+      } step steps drawn retires places parts counts

@@ -1,6 +1,6 @@
 -- A record that its caller took out is put away: its stamp is stored, and from then on it is in limbo.
 use Rattle.std.proofs.Common.{◌≡◌, ℕ, ◌-◌, ◌<◌, ◌^◌, List, length, get_or, set, length-set, true, sym, refl, ap, ◌∙◌, subst, arith, Option, Some}
-use Rattle.std.proofs.lemmas.List.{length-take}
+use Rattle.std.proofs.lemmas.List.{get_or-take, length-take}
 use mathlib.Core.Option.{some}
 use lib.ListN.{get_elem?}
 use Rattle.atomic_table.specs.Table.{State}
@@ -12,13 +12,14 @@ use Rattle.record_memory.specs.declared.books.Book.{Book}
 use Rattle.record_memory.specs.declared.books.Share.{Share}
 use Rattle.record_memory.specs.declared.books.Standing.{Standing}
 use Rattle.record_memory.specs.declared.books.Standing.TheVariants.{TakenOut, Limbo}
-use Rattle.record_memory.specs.declared.books.Place.TheVariants.{Of}
+use Rattle.record_memory.specs.declared.books.Place.{Place}
+use Rattle.record_memory.specs.declared.books.Place.TheVariants.{Undrawn, Of}
 use Rattle.record_memory.specs.Memory.{Memory, memory, address, put}
 use Rattle.record_memory.proofs.Stores.{stores, take-set}
 use Rattle.row_words.specs.Refs.{RefParts}
-use Rattle.row_words.specs.Packing.{packed_number}
+use Rattle.row_words.specs.Packing.{own_in, packed_number}
 use Rattle.row_words.proofs.Packed.{own_in-packed_number, number_in-packed_number}
-use Rattle.record_rule.specs.Records.{Record, known}
+use Rattle.record_rule.specs.Records.{Record, known, carried}
 use Rattle.record_rule.specs.Recorded.{StepFits}
 use Rattle.record_rule.specs.Inputs.{SchemeInput, SchemeCell, limbo, birth, scheme_cell, scheme_input, guard_of, Outline, outline}
 use Rattle.record_rule.specs.Facts.{ShapeFacts, CoverFacts}
@@ -31,6 +32,8 @@ use Rattle.record_rule.specs.Counts.{drawn_as, retired_as, freed_as}
 use Rattle.record_rule.specs.Kinds.{retired_one}
 use Rattle.record_rule.proofs.Counts.{Balances, counts_moved}
 use Rattle.record_rule.proofs.Rebuilt.{elsewhere, rebuilt}
+use Rattle.record_rule.proofs.Retirements.{LeavesRetirements}
+use Rattle.record_rule.proofs.RetirementMoves.{in_stamp}
 use Rattle.record_rule.proofs.Quiet.{calm_after, outline_scheme}
 use Rattle.record_rule.proofs.Safe.{safe}
 use Rattle.record_rule.proofs.Steps.{before, book}
@@ -120,10 +123,18 @@ module _ (shape : ShapeFacts) (cover : CoverFacts) (covering : CoverLaws cover) 
       (subst (λ (q : Standing). 2 < length (known q node.row)) (sym standing) (let e = (u.places.sound (i - 1) node there).eight in let l = length-take 3 node.row in omega arith))
       (own_in-packed_number r.generation stamp small ∙ sym generation)
 
+  -- and it retires the record, at its generation
+  retires_it : LeavesRetirements setup.first u.records (set u.records (i - 1) new) (field_store v i 2 value h)
+  retires_it = let sound = u.places.sound (i - 1) node there in
+      in_stamp i 2 (field_store v i 2 value h) refl refl refl setup.first u.records node new there some_index refl
+      (ap (λ (x : Share). own_in (get_or x.words 2 0)) whole ∙ ap own_in (get_or-take 3 node.row 2 0 (omega arith)) ∙ sound.generations 2 (omega arith) ∙ ap (λ (p : Place). carried p node.generation 2) is)
+      (own_in-packed_number r.generation stamp small ∙ sym generation ∙ ap (λ (x : Share). x.generation) whole)
+      (sound.born (λ q. let none : Undrawn ≡ Of c TakenOut = sym q ∙ is in let no_such : ⊥ = cc in no_such)) refl (ap retired_as is) refl
+
   -- so the rule stays
   kept : Rule shape cover setup record { words = words; homes = s.homes; views = set s.views id (retired v r h stamp) }
   kept = rebuilt shape cover setup s u id v at present words (length-set s.words (address setup.callers (Field i 2)) value ∙ u.wide) (set u.records (i - 1) new) own _ fits refl refl refl refl refl
-      (elsewhere m.drawn m'.drawn _ (ap (λ (x : Memory). x.drawn) put_is) (λ e. cc)) places
+      (elsewhere m.drawn m'.drawn _ (ap (λ (x : Memory). x.drawn) put_is) (λ e. cc)) retires_it places
       (subst (Parts shape cover setup) outline_is record {
         taken = u.parts.taken;
         held = u.parts.held;

@@ -36,6 +36,8 @@ use Rattle.record_memory.specs.declared.books.Moves.{Moves}
 use Rattle.record_rule.specs.Counts.{was_drawn, drawn_as, retired_as, freed_as}
 use Rattle.record_rule.proofs.Counts.{Balances, counts_moved}
 use Rattle.record_rule.proofs.Rebuilt.{elsewhere, rebuilt}
+use Rattle.record_rule.proofs.Retirements.{LeavesRetirements, retires_none, shows_same}
+use Rattle.record_rule.proofs.RetirementMoves.{renewed_shows}
 use Rattle.record_rule.proofs.Steps.{before, book}
 use Rattle.record_rule.proofs.HandingOut.{known_within}
 use Rattle.record_rule.proofs.Moves.{places_after}
@@ -161,10 +163,15 @@ module _ (shape : ShapeFacts) (cover : CoverFacts) (setup : Setup) (s : State (U
     offers = sym (map_set_same offer_of u.books c v.own own here refl) k;
   }
 
+  -- it was retired once at its generation, and at the next one never
+  retires_none_here : LeavesRetirements setup.first u.records (set u.records i new) (field_load v r.index 1 (get_or node.row 1 0))
+  retires_none_here = let sound = u.places.sound i node there in retires_none setup.first u.records (set u.records i new) (field_load v r.index 1 (get_or node.row 1 0)) refl
+      (shows_same setup.first u.records i node new there (omega arith) (renewed_shows setup.first node new (sound.born (λ q. let none : Undrawn ≡ Of c Free = sym q ∙ is in let no_such : ⊥ = cc in no_such)) refl (ap retired_as is) refl))
+
   -- so the rule stays
   kept : (word : ℕ) → Rule shape cover setup record { words = set s.words word (get_or s.words word 0); homes = s.homes; views = set s.views id (took_free v r has.share node.row) }
   kept word = subst (λ (ws : List ℕ). Rule shape cover setup record { words = ws; homes = s.homes; views = set s.views id (took_free v r has.share node.row) }) (sym (set-get_or s.words word 0))
-      (rebuilt shape cover setup s u id v at present s.words u.wide (set u.records i new) own _ (load_fits shape cover setup s u id v at present r.index 1 (get_or node.row 1 0) Free node there is) refl refl refl refl refl (elsewhere m.drawn m.drawn _ refl (λ e. cc))
+      (rebuilt shape cover setup s u id v at present s.words u.wide (set u.records i new) own _ (load_fits shape cover setup s u id v at present r.index 1 (get_or node.row 1 0) Free node there is) refl refl refl refl refl (elsewhere m.drawn m.drawn _ refl (λ e. cc)) retires_none_here
       (renewed_places setup u.records u.books m c i v.own own node u.places (book shape cover setup s u id v at present) there is refl (ap (λ (x : Share). set v.own.mine i (Some x)) share_is)
       (calm_after v.own.drawing v.setup.records (field_load v r.index 1 (get_or node.row 1 0)) tt))
       (subst (Parts shape cover setup) outline_is record {

@@ -37,6 +37,7 @@ use Rattle.record_rule.specs.LockedLinks.{IsUnlocked}
 use Rattle.record_rule.specs.Recorded.{LeavesLink}
 use Rattle.record_rule.proofs.Lists.{below_at, one_at, get_at}
 use Rattle.record_rule.proofs.Rebuilt.{starts_more}
+use Rattle.record_rule.proofs.Retirements.{link_retires_none, shows_moved}
 use Rattle.record_rule.proofs.Quiet.{IsCalm, calm_after}
 use Rattle.record_rule.proofs.Safe.{linked_place, safe}
 use Rattle.record_rule.proofs.HeldMoves.{held_out}
@@ -173,7 +174,9 @@ module _ (shape : ShapeFacts) (cover : CoverFacts) (shaped : ShapeLaws shape) (s
       w,
       leaves shape cover setup is_setup s u id v at present o n word f is low high same holds new is_link None tt t mine locks records taken_out old old_is node_there
           (finds_held shape cover setup is_setup s u id v at present o n kind f (link_word v.setup o old) (link_word v.setup o new) (subst (λ (z : Setup). own_in (link_word z o old) ≡ generation_at setup o) (sym same) own_is)
-          (subst (λ (z : Setup). own_in (link_word z o new) ≡ generation_at setup o) (sym same) (own_in-packed_link (generation_at setup o) new is_link)) by) (λ e. cc) (starts_more u.taken_out (gone ∷ []))
+          (subst (λ (z : Setup). own_in (link_word z o new) ≡ generation_at setup o) (sym same) (own_in-packed_link (generation_at setup o) new is_link)) by) (λ e. cc)
+          (link_retires_none setup.first u.records records t (index_of o) f refl low n.some_index n.node node_there
+          (let left = subst (λ (z : Setup). own_in (link_word z o new) ≡ generation_at setup o) (sym same) (own_in-packed_link (generation_at setup o) new is_link) in let node = n.generation in omega arith) (shows_moved setup.first u.records k r r' q.there refl (sym (ap retired_as gone_place)))) (starts_more u.taken_out (gone ∷ []))
           (taken_places setup u.records u.books m c k count v.own w.own r u.places (book shape cover setup s u id v at present) q.there gone_place refl
           (ap (λ (e : ℕ). set v.own.mine k (Some (record { standing = TakenOut; generation = e; taken_number = count; words = take 3 r.row }))) (sym q.generation)) (calm_after v.own.drawing v.setup.records t calm))
           (counts_moved setup.first u.records u.books c v.own w.own (book shape cover setup s u id v at present) u.counts k r r' q.there

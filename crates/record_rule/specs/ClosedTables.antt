@@ -17,6 +17,7 @@ use Rattle.record_rule.specs.Histories.{HistoryFits, IsWaiting}
 use Rattle.record_rule.specs.World.{Places}
 use Rattle.record_rule.specs.PlaceCounts.{CountsAddUp}
 use Rattle.record_rule.specs.Counts.{CountsFit}
+use Rattle.record_rule.specs.Retirements.{RetirementsFit, AreRetiredBetween}
 
 -- what the facts of its set and of its reclaimer read
 abbrev pub outline_left : Setup → List ℕ → List Book → List Record → List RefParts → List Update → Outline
@@ -35,7 +36,7 @@ pub record IsWhole (s : ShapeFacts) (setup : Setup) (books : List Book) (history
   pub answered : AreAllAnswered books → waiting ≡ []
   pub unhelped : ¬ s.helped → waiting ≡ []
 
--- Each step that was recorded as one on a held record found that record's generation, a record was handed out again only after it was taken out once,
+-- Each step that was recorded as one on a held record found that record's generation, a record was handed out again only after it was taken out once and retired once,
 -- and what the records show is one legal history of the set, each answered call once, in its caller's order
 pub record ClosedFits (s : ShapeFacts) (c : CoverFacts) (setup : Setup) (words : List ℕ) (books : List Book) (history : List Update) : Type 0 where
   -- the numbers and the names that the table was made with
@@ -57,6 +58,10 @@ pub record ClosedFits (s : ShapeFacts) (c : CoverFacts) (setup : Setup) (words :
   pub counted : CountsAddUp setup (memory setup.callers setup.records words).rows records taken_out
   -- and how many moves of records all callers made
   pub moved : CountsFit setup.first records books
+  -- Each generation of a record that is over, and the last one where the record was retired, has exactly one retirement among the recorded steps of all callers, and no other generation has any.
+  pub retirements : RetirementsFit setup.first records books
+  -- so for each step that handed a record out again there is just one that retired it, at the generation before
+  pub retired_between : AreRetiredBetween setup.first books
   -- the history is legal, and each answered call stands in it once; what waits behind it no caller has taken up
   pub waiting : List Update
   pub whole : IsWhole s setup books history waiting

@@ -14,6 +14,7 @@ pub mod Histories
 pub mod Recorded
 pub mod Standings
 pub mod Counts
+pub mod Retirements
 pub mod World
 pub mod Opening
 pub mod Kinds
@@ -27,6 +28,7 @@ pub mod ControlSteps
 pub mod Freeing
 pub mod TakesFree
 pub mod Makes
+pub mod Beginnings
 pub mod Splits
 pub mod Meetings
 pub mod PlaceCounts

@@ -1,22 +1,14 @@
 -- What a pass knows after it took up another's front.
-use Rattle.std.specs.Prelude.{◌≡◌, ◌⊎◌, List, [], ◌∷◌, Bool, true, false, not, ◌==◌, ◌&&◌, if◌then◌else◌}
+use Rattle.std.specs.Prelude.{◌≡◌, ◌⊎◌, List, Bool, true, false}
 use Rattle.set_model.specs.declared.calls.Update.{Update}
 use Rattle.record_memory.specs.declared.books.View.{View}
 use Rattle.record_rule.specs.World.{StartsWith}
+use Rattle.record_rule.specs.Beginnings.{begins}
 use Rattle.record_rule.specs.Splits.{spent}
 
 -- a message that carries a front from one pass to another, and no book
 abbrev pub message : List Update → View
 message front = record spent { front = front }
-
-abbrev pub same_update : Update → Update → Bool
-same_update a b = (a.caller == b.caller) && ((a.number == b.number) && ((a.key == b.key) && (if a.added then b.added else not b.added)))
-
--- whether the second list begins with the first
-abbrev pub begins : List Update → List Update → Bool
-begins [] whole = true
-begins (x ∷ xs) [] = false
-begins (x ∷ xs) (y ∷ ys) = same_update x y && begins xs ys
 
 -- The pass keeps the longer one. No table has two fronts of which neither begins the other; so there the pass would keep both, where its next look at the table sees them
 abbrev pub heard_by : Bool → Bool → View → List Update → View
@@ -26,10 +18,6 @@ heard_by false false v front = record v { seen_updates = front }
 
 abbrev pub heard : View → List Update → View
 heard v front = heard_by (begins v.front front) (begins front v.front) v front
-
--- of the updates that the pass knows by its front and by its steps, one list begins the other
-abbrev pub IsOneHistory : View → Type 0
-IsOneHistory v = StartsWith v.seen_updates v.front ⊎ StartsWith v.front v.seen_updates
 
 -- the pass has taken up a front: its own now begins with both, and is one of them; nothing else that it knows changed
 pub record HasMet (before : View) (front : List Update) (after : View) : Type 0 where

@@ -1,5 +1,6 @@
 -- What two passes know after one was split off, and what a pass knows that another was joined into.
-use Rattle.std.specs.Prelude.{List, [], ◌∷◌, ◌++◌, length, nat_lt, if◌then◌else◌, None, false}
+use Rattle.std.specs.Prelude.{List, [], ◌∷◌, ◌++◌, length, nat_lt, if◌then◌else◌, None, Bool, true, false}
+use Rattle.set_model.specs.declared.calls.Update.{Update}
 use Rattle.set_model.specs.declared.names.SetName.TheVariants.{Plain}
 use Rattle.set_model.specs.declared.names.ReclaimerName.TheVariants.{Nothing}
 use Rattle.set_model.specs.declared.names.AllocatorName.TheVariants.{Bump}
@@ -8,6 +9,7 @@ use Rattle.record_memory.specs.declared.books.View.{View}
 use Rattle.record_memory.specs.declared.books.Book.{Book}
 use Rattle.record_memory.specs.declared.books.Guard.{Guard}
 use Rattle.record_rule.specs.World.{carries}
+use Rattle.record_rule.specs.Beginnings.{agree}
 use Rattle.record_rule.specs.Opening.{first_book}
 
 abbrev pub left_of : View → List Book → View
@@ -30,14 +32,29 @@ split_right v = right_of v v.others
 abbrev pub longer : {A : Type 0} → List A → List A → List A
 longer xs ys = if nat_lt (length xs) (length ys) then ys else xs
 
--- the pass carries the other's books behind its own, and has seen what either had
-abbrev pub joined : View → View → View
-joined v w = record v {
+-- What a joined pass knows of the updates, its front first: the longer lists, where what each of the two passes knows is of one history, and their fronts are.
+-- On a table they always are. Where they weren't, the pass would keep two lists of which neither begins the other, with which no table can end
+abbrev pub known_by : Bool → Bool → Bool → View → View → List Update × List Update
+known_by true true true v w = (longer v.front w.front, longer v.seen_updates w.seen_updates)
+known_by true true false v w = (v.front, w.front)
+known_by true false c v w = (w.front, w.seen_updates)
+known_by false b c v w = (v.front, v.seen_updates)
+
+abbrev pub known_by_both : View → View → List Update × List Update
+known_by_both v w = known_by (agree v.front v.seen_updates) (agree w.front w.seen_updates) (agree v.front w.front) v w
+
+-- the pass carries the other's books behind its own, and knows these updates
+abbrev pub joined_with : List Update × List Update → View → View → View
+joined_with known v w = record v {
   others = v.others ++ carries w;
-  front = longer v.front w.front;
-  seen_updates = longer v.seen_updates w.seen_updates;
+  front = known.0;
+  seen_updates = known.1;
   seen_taken_out = longer v.seen_taken_out w.seen_taken_out;
 }
+
+-- and has seen what either had
+abbrev pub joined : View → View → View
+joined v w = joined_with (known_by_both v w) v w
 
 -- what is left of a pass that was joined into another
 abbrev pub no_setup : Setup

@@ -28,6 +28,7 @@ use Rattle.record_rule.specs.Locks.{LocksFit}
 use Rattle.record_rule.specs.Recorded.{StepFits, FoundWithin}
 use Rattle.record_rule.specs.Histories.{HistoryFits, after}
 use Rattle.record_rule.specs.Counts.{CountsFit}
+use Rattle.record_rule.specs.Retirements.{RetirementsFit}
 
 -- a list begins with another
 abbrev pub StartsWith : {A : Type 0} → List A → List A → Type 0
@@ -148,6 +149,8 @@ pub record Rule (s : ShapeFacts) (c : CoverFacts) (setup : Setup) (t : State (Un
   pub parts : Parts s c setup (outline (memory setup.callers setup.records t.words) records books taken_out updates)
   -- the callers' moves of records are the records'
   pub counts : CountsFit setup.first records books
+  -- and each record was retired at each of its generations as often as it shows
+  pub retirements : RetirementsFit setup.first records books
   -- no guard started at a step that is still to come
   pub start_made : (c : ℕ) (b : Book) → At books c b → b.guard.start_step ≤ length b.steps
   -- each step found and left what it may by its word and its kind, and on a held record its generation

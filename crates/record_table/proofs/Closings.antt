@@ -1,14 +1,16 @@
 -- The passes of a table are absorbed in order of number.
 use Rattle.std.proofs.Common.{◌≡◌, ℕ, suc, ◌+◌, List, [], ◌∷◌, ◌++◌, map, length, All, true, sym, refl, ap, ◌∙◌, subst, arith}
 use Rattle.std.proofs.lemmas.List.{append-nil, nil_from_length, append_assoc, reverse-append, reverse-reverse}
-use Rattle.std.proofs.lemmas.List.Elements.{All-nil, All-head, All-tail, All-push}
+use Rattle.std.proofs.lemmas.List.Elements.{All-nil, All-cons, All-head, All-tail, All-push, All-same, All-weaker}
 use mathlib.Core.List.{reverse}
 use Rattle.record_memory.specs.declared.books.View.{View}
 use Rattle.record_memory.specs.declared.books.Book.{Book}
 use Rattle.record_memory.specs.declared.books.Guard.{Guard}
-use Rattle.record_rule.specs.World.{carries}
+use Rattle.record_rule.specs.World.{StartsWith, carries}
+use Rattle.record_rule.specs.Beginnings.{IsOneHistory}
 use Rattle.record_rule.specs.Splits.{joined}
-use Rattle.record_rule.proofs.Rebuilt.{carries_own}
+use Rattle.record_rule.proofs.Rebuilt.{carries_own, starts_itself, starts_then}
+use Rattle.record_rule.proofs.Beginnings.{heard_joined}
 use Rattle.record_table.specs.declared.table.Table.{Table}
 use Rattle.record_table.specs.declared.passes.Pass.{Pass}
 use Rattle.record_table.specs.Handles.{setup_of, view}
@@ -49,6 +51,38 @@ module _ {S R : Type 0} (t : Table S R) where
   -- once none is left, the last pass carries the books of all
   pub last_all : (callers : List ℕ) (all xs : List (Pass S R)) (v : View) → length xs ≡ 0 → carries v ++ map own_book (reverse xs) ≡ map own_book all → map own_caller all ≡ callers → map (λ (b : Book). b.caller) (carries v) ≡ callers
   last_all callers all xs v none is numbers = ap (map (λ (b : Book). b.caller)) (sym (append-nil (carries v)) ∙ ap (λ l. carries v ++ map own_book (reverse l)) (sym (nil_from_length xs none)) ∙ is) ∙ sym (map_own all) ∙ numbers
+
+  -- of all passes these are left, and once the absorbing one knows of one history, the fronts of all others begin its own
+  pub record HaveHeard (v : View) (all left : List (Pass S R)) : Type 0 where
+    pub done : List (Pass S R)
+    pub split : all ≡ done ++ reverse left
+    pub fronts : IsOneHistory v → All (λ (p : Pass S R). StartsWith v.front (view p).front) done
+
+  -- the last of what is left comes next
+  next_pass : (xs ys : List (Pass S R)) (p : Pass S R) → xs ≡ ys ++ p ∷ [] → reverse xs ≡ p ∷ reverse ys
+  next_pass xs ys p e = ap reverse e ∙ reverse-append ys (p ∷ [])
+
+  -- the first pass has heard its own front
+  pub first_heard : (all xs ys : List (Pass S R)) (p : Pass S R) → xs ≡ reverse all → xs ≡ ys ++ p ∷ [] → HaveHeard (view p) all ys
+  first_heard all xs ys p r e = record {
+    done = p ∷ [];
+    split = sym (reverse-reverse all) ∙ ap reverse (sym r) ∙ next_pass xs ys p e;
+    fronts = λ _. All-cons (λ (q : Pass S R). StartsWith (view p).front (view q).front) p [] (starts_itself (view p).front) (All-nil (λ (q : Pass S R). StartsWith (view p).front (view q).front));
+  }
+
+  -- and one that absorbs another hears one more
+  pub more_heard : (all : List (Pass S R)) (v w : View) (xs ys : List (Pass S R)) (p : Pass S R) → w ≡ joined v (view p) → xs ≡ ys ++ p ∷ [] → HaveHeard v all xs → HaveHeard w all ys
+  more_heard all v w xs ys p is e h = subst (λ (z : View). HaveHeard z all ys) (sym is) record {
+    done = h.done ++ p ∷ [];
+    split = h.split ∙ ap (λ l. h.done ++ l) (next_pass xs ys p e) ∙ sym (append_assoc h.done (p ∷ []) (reverse ys));
+    fronts = λ one. let x = heard_joined v (view p) one in let after : View = joined v (view p) in
+        All-push (λ (q : Pass S R). StartsWith after.front (view q).front) h.done p
+        (All-weaker (λ (q : Pass S R). StartsWith v.front (view q).front) (λ (q : Pass S R). StartsWith after.front (view q).front) (λ q b. starts_then (view q).front v.front after.front b x.own) h.done (h.fronts x.before)) x.other;
+  }
+
+  -- so it has heard all once none is left
+  pub all_heard : (all left : List (Pass S R)) (v : View) → length left ≡ 0 → IsOneHistory v → HaveHeard v all left → All (λ (p : Pass S R). StartsWith v.front (view p).front) all
+  all_heard all left v none one h = All-same (λ (p : Pass S R). StartsWith v.front (view p).front) all h.done (h.split ∙ ap (λ l. h.done ++ reverse l) (nil_from_length left none) ∙ append-nil h.done) (h.fronts one)
 
   pub tail_fresh : (first : Guard) (from : ℕ) (p : Pass S R) (ps : List (Pass S R)) → AreFreshFrom t first from (p ∷ ps) → AreFreshFrom t first (from + 1) ps
   tail_fresh first from p ps f = record {

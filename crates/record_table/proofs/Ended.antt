@@ -12,6 +12,8 @@ use Rattle.record_rule.specs.Facts.{ShapeFacts, CoverFacts}
 use Rattle.record_rule.specs.Laws.{ShapeLaws}
 use Rattle.record_rule.specs.World.{Rule, carries}
 use Rattle.record_rule.specs.ClosedTables.{ClosedFits}
+use Rattle.record_rule.specs.Beginnings.{IsOneHistory}
+use Rattle.record_rule.proofs.Beginnings.{one_begins}
 use Rattle.record_rule.proofs.Closes.{closed_fits}
 use Rattle.record_table.specs.declared.closing.Closed.{Closed}
 use Rattle.record_table.specs.Closing.{closed_words, closed_setup, closed_view, numbers_from, IsLastOf, IsEndOf, IsClosedBy}
@@ -35,6 +37,10 @@ module _ (setup : Setup) (v : View) (last : IsLastOf setup v) where
   -- the end of a table is one that its rule allows
   ended_fits : (s : ShapeFacts) (r : CoverFacts) → ShapeLaws s → (words : List ℕ) → IsSetup setup → IsEndOf (Rule s r setup) v words → ClosedFits s r setup words (carries v) v.front
   ended_fits s r laws words numbers e = subst (λ ws. ClosedFits s r setup ws (carries v) v.front) e.words_are (closed_fits s r setup e.state e.rule e.seat v e.known many numbered laws numbers)
+
+-- what the last pass knows is of one history
+pub one_history : (s : ShapeFacts) (r : CoverFacts) (setup : Setup) (v : View) (words : List ℕ) → IsEndOf (Rule s r setup) v words → IsOneHistory v
+one_history s r setup v words e = let u = e.rule in let f = u.seated e.seat v e.known in one_begins u.updates v.front v.seen_updates f.front f.seen_updates
 
 pub closed_by : (s : ShapeFacts) (r : CoverFacts) → ShapeLaws s → (setup : Setup) (v : View) (c : Closed) → IsSetup setup → closed_setup c ≡ setup → closed_view c ≡ v → IsEndOf (Rule s r setup) v (closed_words c) → IsLastOf setup v → IsClosedBy s r c
 closed_by s r laws setup v c numbers k w e last = subst (λ (z : Setup × View). ClosedFits s r z.0 (closed_words c) (carries z.1) z.1.front) (λ j. (sym k j, sym w j)) (ended_fits setup v last s r laws (closed_words c) numbers e)

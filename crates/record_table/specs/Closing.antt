@@ -8,7 +8,7 @@ use Rattle.record_memory.specs.declared.books.Setup.{Setup}
 use Rattle.record_memory.specs.declared.books.View.{View}
 use Rattle.record_memory.specs.declared.books.Book.{Book}
 use Rattle.record_rule.specs.Facts.{ShapeFacts, CoverFacts}
-use Rattle.record_rule.specs.World.{carries}
+use Rattle.record_rule.specs.World.{StartsWith, carries}
 use Rattle.record_rule.specs.ClosedTables.{ClosedFits}
 use Rattle.record_table.specs.declared.closing.Closed.{Closed}
 use Rattle.record_table.specs.declared.table.Table.{Table}
@@ -65,6 +65,10 @@ module _ {S R : Type 0} where
   pub record IsWholePassOf (t : Table S R) (p : Pass S R) : Type 0 where
     pub pass : IsPassOf t p
     pub whole : (view p).others ≡ []
+
+  -- what the pass knew of the updates begins the closed history
+  abbrev pub BeginsHistory : Closed → Pass S R → Type 0
+  BeginsHistory c p = StartsWith (history_of c) (view p).front
 
   -- these are all passes of this table, in order of number
   pub record AreAllPasses (t : Table S R) (passes : List (Pass S R)) : Type 0 where

@@ -56,6 +56,7 @@ impl<S: Shape, R: Cover> Table<S, R> {
     ghost use Rattle.std.specs.Prelude.{◌≡◌, ◌<◌, ℕ};
     ghost use Rattle.record_rule.specs.Splits.{joined};
     ghost use Rattle.record_table.specs.Handles.{setup_of, rule, view, since, is_inside, seat_of, IsPassOf};
+    ghost use Rattle.record_rule.specs.Beginnings.{IsOneHistory};
     ghost use Rattle.record_table.specs.Closing.{closed_words, closed_setup, closed_view, IsLastOf, IsEndOf, IsClosedBy};
 
     /// Joins a pass of this table into another one, which then carries the steps of both.
@@ -99,12 +100,14 @@ impl<S: Shape, R: Cover> Table<S, R> {
 
     /// Closes the table. `last` is caller 0's pass and has absorbed every other pass in order of
     /// number. The words are copied once, into room that `prepare` took. The front of `last` is the
-    /// table's one history.
+    /// table's one history. What it knows is of one history, so the fronts of the passes that it
+    /// absorbed begin it (`heard_joined`).
     pub fn close_last(self, last: Pass<S, R>) -> Closed
         requires pass { IsPassOf self last }
         requires all { IsLastOf (setup_of self) (view last) }
         ensures setup { closed_setup result ≡ setup_of self }
         ensures view { closed_view result ≡ view last }
+        ensures one { IsOneHistory (view last) }
         ensures fits { IsClosedBy S.facts R.facts result }
     {
         self.end(last)
@@ -112,15 +115,17 @@ impl<S: Shape, R: Cover> Table<S, R> {
 }
 
 impl<S: Shape, R: Cover> Table<S, R> {
-    ghost use Rattle.std.specs.Prelude.{◌≡◌, map};
+    ghost use Rattle.std.specs.Prelude.{◌≡◌, map, All};
     ghost use Rattle.record_table.specs.Handles.{setup_of};
-    ghost use Rattle.record_table.specs.Closing.{closed_setup, closed_books, own_book, AreAllPasses, IsClosedBy};
+    ghost use Rattle.record_table.specs.Closing.{closed_setup, closed_books, own_book, AreAllPasses, IsClosedBy, BeginsHistory};
 
-    /// Closes the table. `passes` has every pass of this table in order of number.
+    /// Closes the table. `passes` has every pass of this table in order of number. The front of each
+    /// begins the table's one history.
     pub fn close(self, mut passes: Vec<Pass<S, R>>) -> Closed
         requires { AreAllPasses self passes.items }
         ensures setup { closed_setup result ≡ setup_of self }
         ensures books { closed_books result ≡ map own_book passes.items }
+        ensures fronts { All (BeginsHistory result) passes.items }
         ensures fits { IsClosedBy S.facts R.facts result }
     {
         passes.reverse();

@@ -1,6 +1,6 @@
 // What an atomic step tells the pass that makes it. These types are for the proofs alone.
 ghost use Rattle.std.specs.Prelude.{◌≡◌, ℕ};
-ghost use Rattle.record_rule.specs.Meetings.{IsOneHistory};
+ghost use Rattle.record_rule.specs.Beginnings.{IsOneHistory};
 
 use atomic_table::Play;
 use record_memory::View;

@@ -111,7 +111,7 @@ impl<S: Shape, R: Cover> Table<S, R> {
 impl<S: Shape, R: Cover> Table<S, R> {
     ghost use Rattle.std.specs.Prelude.{◌≡◌, []};
     ghost use Rattle.atomic_table.specs.Table.{Splits, Joins};
-    ghost use Rattle.record_rule.specs.Meetings.{IsOneHistory};
+    ghost use Rattle.record_rule.specs.Beginnings.{IsOneHistory};
     ghost use Rattle.record_table.specs.Handles.{rule};
 
     pub(crate) fn split<M: Split<View>>(&self, seat: &mut Seat<(), View>) -> Seat<(), View>

@@ -1,9 +1,12 @@
-use Rattle.std.proofs.Common.{◌≡◌, arith, ap, ◌∙◌, Some}
+use Rattle.std.proofs.Common.{◌≡◌, sym, subst, arith, ap, ◌∙◌, Some, All}
 use Rattle.std.proofs.lemmas.List.{length-map}
 use Rattle.std.proofs.lemmas.List.Elements.{All-pop, All-same}
 use mathlib.Core.List.{reverse}
+use Rattle.record_memory.specs.declared.books.View.{View}
+use Rattle.record_rule.specs.World.{StartsWith}
+use Rattle.record_table.specs.Handles.{view}
 use Rattle.record_table.specs.Closing.{IsWholePassOf}
-use Rattle.record_table.proofs.Closings.{All-reverse, first_all, more_all, last_all}
+use Rattle.record_table.proofs.Closings.{All-reverse, first_all, more_all, last_all, first_heard, more_heard, all_heard}
 use Rattle.manager.specs.Made.{pass_of, passes_of}
 use Rattle.manager.proofs.Seats.{passes_reversed, popped_passes, no_callers}
 use Rattle.manager.proofs.Sums.{moves_add_up}
@@ -18,6 +21,7 @@ loop-caller-init g c = let t = c.args.self.table in let first = c.in-Some.first 
     let p = All-pop (IsWholePassOf t) (passes_of xs) (passes_of ys) (Some first.pass) next (All-same (IsWholePassOf t) (passes_of xs) (reverse ps) turned (All-reverse (IsWholePassOf t) ps c.requires.each)) in record {
       is = p.1.pass;
       rest = p.0;
+      heard = first_heard t ps (passes_of xs) (passes_of ys) first.pass turned next;
       all = first_all t ps (passes_of xs) (passes_of ys) first.pass turned next p.1;
     }
 
@@ -30,12 +34,18 @@ loop-caller-preserved g c = let t = c.args.self.table in let xs = c.loop-caller.
     let next = popped_passes xs ys caller c.in-Some-pop.ensures.items in let p = All-pop (IsWholePassOf t) (passes_of xs) (passes_of ys) (Some caller.pass) next c.loop-caller.invariant.rest in record {
       is = c.absorb.ensures.pass;
       rest = p.0;
+      heard = more_heard t (passes_of c.args.callers.items) _ _ (passes_of xs) (passes_of ys) caller.pass c.absorb.ensures.joined next c.loop-caller.invariant.heard;
       all = more_all t _ _ _ (passes_of xs) (passes_of ys) caller.pass c.loop-caller.invariant.is.present c.absorb.ensures.joined next p.1 c.loop-caller.invariant.all;
     }
 
 pub close_last-requires-clause-all : goal.close_last-requires-clause-all
 close_last-requires-clause-all g c = last_all c.args.self.table _ (passes_of c.args.callers.items) (passes_of c.loop-caller.callers.items) _
     (let e = c.in_default-pop.ensures.cases.0 in let l = c.loop-caller.callers.ok.0 in let m = length-map c.loop-caller.callers.items pass_of in omega arith) c.loop-caller.invariant.all c.requires.order
+
+pub returns-clause-fronts : goal.returns-clause-fronts
+returns-clause-fronts g c = subst (λ (v : View). All (λ p. StartsWith v.front (view p).front) (passes_of c.args.callers.items)) (sym c.close_last.ensures.view)
+    (all_heard c.args.self.table (passes_of c.args.callers.items) (passes_of c.loop-caller.callers.items) _
+    (let e = c.in_default-pop.ensures.cases.0 in let l = c.loop-caller.callers.ok.0 in let m = length-map c.loop-caller.callers.items pass_of in omega arith) c.close_last.ensures.one c.loop-caller.invariant.heard)
 
 pub returns-clause-moves : goal.returns-clause-moves
 returns-clause-moves g c = let f = c.close_last.ensures.fits in record { records = f.records; placed = f.placed; sums = moves_add_up _ f.records _ _ f.placed f.moved }

@@ -1,6 +1,7 @@
 use Rattle.std.proofs.Common.{ap, subst, sym, ◌∙◌}
 use Rattle.record_memory.specs.declared.books.View.{View}
-use Rattle.record_rule.specs.Meetings.{IsOneHistory, HasMet}
+use Rattle.record_rule.specs.Beginnings.{IsOneHistory}
+use Rattle.record_rule.specs.Meetings.{HasMet}
 use Rattle.record_rule.proofs.Meetings.{hears, meets}
 use Rattle.record_table.proofs.table.Table.take_front.Goals as goal
 
