@@ -43,6 +43,7 @@ pub mod LockedNodes
 pub mod LockedStores
 pub mod LockedPublishes
 pub mod LockedUnlinks
+pub mod KnownLocks
 pub mod Controls
 pub mod Announces
 pub mod Placing

@@ -19,7 +19,7 @@ use Rattle.record_rule.proofs.SeenCells.{cell_before, cell_after}
 use Rattle.record_rule.proofs.HeldMoves.{HasBody}
 
 -- the test of a word says whether it is the one
-is_on : (l : LockedWord) (i f : ℕ) → (eqb l.index i && eqb l.field f) ≡ true → IsOn l i f
+pub is_on : (l : LockedWord) (i f : ℕ) → (eqb l.index i && eqb l.field f) ≡ true → IsOn l i f
 is_on l i f e = by (eqb l.index i) refl e
   where
     by : (b : Bool) → eqb l.index i ≡ b → (b && eqb l.field f) ≡ true → IsOn l i f
