@@ -1,0 +1,5 @@
+pub mod Keeping
+pub mod Targets
+pub mod Absences
+pub mod Relocking
+pub mod Marking
