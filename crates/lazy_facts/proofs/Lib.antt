@@ -3,3 +3,8 @@ pub mod Targets
 pub mod Absences
 pub mod Relocking
 pub mod Marking
+pub mod Publishing
+pub mod Unlinking
+pub mod Openings
+pub mod Shows
+pub mod LazyLaws
