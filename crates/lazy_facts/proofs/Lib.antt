@@ -8,3 +8,5 @@ pub mod Unlinking
 pub mod Openings
 pub mod Shows
 pub mod LazyLaws
+pub mod Unlocked
+pub mod LazyLists
