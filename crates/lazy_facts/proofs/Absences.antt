@@ -1,5 +1,5 @@
 -- A marked record that is linked: its key is absent now, and so is every one up to its target's. So a guard may start at any step.
-use Rattle.std.proofs.Common.{◌≡◌, ℕ, ◌+◌, ◌-◌, ◌%◌, ◌<◌, List, length, take, set, max, Option, Some, None, refl, ap, ◌∙◌, subst, sym, arith, ⊎_elim, inl, inr}
+use Rattle.std.proofs.Common.{◌≡◌, ℕ, ◌+◌, ◌-◌, ◌%◌, ◌<◌, List, length, take, set, max, Option, Some, None, refl, ap, ◌∙◌, subst, sym, arith, ⊎_elim}
 use Rattle.std.proofs.lemmas.Bool.{false_from_ne_true}
 use Rattle.std.proofs.lemmas.List.{take_all}
 use mathlib.Core.Option.{some}
@@ -17,7 +17,7 @@ use Rattle.list_facts.specs.Lists.{ListFits}
 use Rattle.list_facts.specs.Tellings.{IsPresent, IsMarked, still, gone, ListTold, IsTargetSeen}
 use Rattle.list_facts.proofs.Cells.{linked_spot}
 use Rattle.list_facts.proofs.Shows.{none_behind, up_behind}
-use Rattle.lazy_facts.specs.Absences.{IsRecordWith, IsSeen, TargetIs, MarkedLeadUp, absence_place, AbsentAt, AbsencesFit}
+use Rattle.lazy_facts.specs.Absences.{IsRecordWith, IsSeen, TargetIs, absence_place, AbsentAt, AbsencesFit}
 
 -- what is there at a link's target is seen by a load of the link
 seen_there : (s : ShapeFacts) (cells : List ShapeCell) (t : RefParts) (cell : ShapeCell) (body : List ℕ) → At cells (t.index - 1) cell → IsRecordWith cell t.generation body → TargetSeen s cells (Some t) (Some body)

@@ -1,5 +1,5 @@
 -- The facts of marked records stay through a step that marks nothing, and changes no key where a marked record's link leads.
-use Rattle.std.proofs.Common.{◌≡◌, ℕ, ◌+◌, ◌%◌, ◌<◌, List, [], ◌∷◌, ◌++◌, length, length-append, append-nil, take, Option, Some, None, MatchOption, sym, refl, ap, ◌∙◌, subst, arith}
+use Rattle.std.proofs.Common.{◌≡◌, ℕ, ◌+◌, ◌%◌, ◌<◌, List, [], ◌∷◌, ◌++◌, length-append, append-nil, take, Option, Some, None, MatchOption, sym, refl, ap, ◌∙◌, subst, arith}
 use Rattle.std.proofs.lemmas.List.{take-append-le}
 use Rattle.set_model.specs.declared.calls.Update.{Update}
 use Rattle.set_model.specs.Keys.{contains}

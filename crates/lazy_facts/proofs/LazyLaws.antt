@@ -1,12 +1,11 @@
 -- The lazy list keeps its facts.
-use Rattle.std.proofs.Common.{◌≡◌, ℕ, ◌-◌, ◌<◌, ◌⊎◌, inl, inr, ⊎_elim, List, [], ◌∷◌, ◌++◌, length, set, Option, Some, None, refl, sym, ap, subst, arith}
-use Rattle.set_model.specs.declared.calls.Call.{Call}
+use Rattle.std.proofs.Common.{◌≡◌, ℕ, ◌-◌, ◌<◌, inl, inr, List, [], ◌∷◌, ◌++◌, length, set, Option, Some, None, refl, sym, ap, subst, arith}
 use Rattle.set_model.specs.declared.names.SetName.{SetName}
 use Rattle.row_words.specs.Refs.{RefParts, LinkParts, IsRef}
 use Rattle.row_words.specs.Packing.{IsLink}
 use Rattle.record_memory.specs.declared.books.Setup.{Setup}
 use Rattle.record_memory.specs.declared.books.Note.{Note}
-use Rattle.record_rule.specs.Inputs.{ShapeCell, hidden, linked, out, ShapeInput, Trace}
+use Rattle.record_rule.specs.Inputs.{hidden, linked, out, ShapeInput, Trace}
 use Rattle.record_rule.specs.Facts.{At, with_link, HasMark, clean, Near, at_held, FitsNear, FitsNext, IsLegalUpdate}
 use Rattle.record_rule.specs.Laws.{NodeStep, update_by, NodeIs, IsNewGeneration, Given, Keeps, relinked, ShapeLaws}
 use Rattle.list_facts.specs.Steps.{MayMark, MayPublish, MayUnlink}
@@ -17,7 +16,7 @@ use Rattle.list_facts.proofs.Frozen.{leads_from, follows_behind}
 use Rattle.list_facts.proofs.Marking.{call_is, mark_legal}
 use Rattle.list_facts.proofs.Publishing.{publish_legal}
 use Rattle.list_facts.proofs.Walking.{list_walks, list_reads}
-use Rattle.lazy_facts.specs.Lazy.{LazyFits, LazyTold, MayTurn, lazy}
+use Rattle.lazy_facts.specs.Lazy.{MayTurn, lazy}
 use Rattle.lazy_facts.proofs.Absences.{absences_begin}
 use Rattle.lazy_facts.proofs.Relocking.{relocks}
 use Rattle.lazy_facts.proofs.Marking.{lazy_marks}

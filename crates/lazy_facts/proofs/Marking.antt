@@ -1,5 +1,5 @@
 -- The lock of a held record becomes its mark: the removal is tied to it, and behind it the key is absent, and so is every one up to the target's.
-use Rattle.std.proofs.Common.{◌≡◌, ℕ, ◌+◌, ◌%◌, ◌<◌, List, [], ◌∷◌, ◌++◌, length, length-append, max, set, false, Option, Some, sym, refl, ap, ◌∙◌, subst, arith, inl, inr, ⊎_elim}
+use Rattle.std.proofs.Common.{◌≡◌, ℕ, ◌+◌, ◌%◌, ◌<◌, List, [], ◌∷◌, ◌++◌, length, length-append, max, set, false, Option, Some, sym, refl, ap, ◌∙◌, subst, arith, ⊎_elim}
 use Rattle.atomic_table.proofs.Lists.{set_here}
 use Rattle.set_model.specs.declared.calls.Call.{Call}
 use Rattle.set_model.specs.declared.calls.Call.TheVariants.{Remove}
@@ -12,14 +12,14 @@ use Rattle.record_rule.specs.Facts.{At, link_at, key_at, with_link, mark_bit, Ha
 use Rattle.record_rule.specs.Laws.{NodeIs, StartsFit, relinked, marked_after, grown}
 use Rattle.record_rule.proofs.Lists.{below_at}
 use Rattle.list_facts.specs.Lists.{ListFits}
-use Rattle.list_facts.specs.Tellings.{IsMarked, ListTold}
+use Rattle.list_facts.specs.Tellings.{ListTold}
 use Rattle.list_facts.specs.Steps.{MayMark}
 use Rattle.list_facts.proofs.Bodies.{clear_flags, marked_new, key_with_link}
-use Rattle.list_facts.proofs.Nodes.{cell_near, record_near, node_at, relinked_is}
-use Rattle.list_facts.proofs.Present.{MarkedAs, IsOutSince, marked_since}
+use Rattle.list_facts.proofs.Nodes.{record_near, node_at, relinked_is}
+use Rattle.list_facts.proofs.Present.{MarkedAs, marked_since}
 use Rattle.list_facts.proofs.Told.{update, marked_any}
 use Rattle.list_facts.proofs.Marking.{call_is, marks}
-use Rattle.lazy_facts.specs.Absences.{IsSeen, MarkedLeadUp, absence_place, AbsentAt, AbsencesFit}
+use Rattle.lazy_facts.specs.Absences.{IsSeen, MarkedLeadUp, AbsentAt, AbsencesFit}
 use Rattle.lazy_facts.specs.Lazy.{lazy_flags, LazyFits, LazyTold}
 use Rattle.lazy_facts.proofs.Targets.{seen_node}
 use Rattle.lazy_facts.proofs.Keeping.{KeepsTargets, leads_kept, absent_kept}
@@ -86,7 +86,7 @@ module _ {setup : Setup} {x : ShapeInput} {h : Trace} (fits : LazyFits setup x) 
         let last : position ≡ length h.updates + 1 = marked_new n.marked (length h.updates) old new old_clear (ap mark_bit may.4) in
         let place : max st.updates position ≡ length (h.updates ++ u ∷ []) = omega (arith, last, before, length-append h.updates (u ∷ [])) in
         subst (AbsentAt setup cells_after (h.updates ++ u ∷ []) st body) number
-            (subst (λ (z : List ℕ). AbsentAt setup cells_after (h.updates ++ u ∷ []) st z position) same (absent_now s lists n.index n.generation position body_after here list mark st place))
+        (subst (λ (z : List ℕ). AbsentAt setup cells_after (h.updates ++ u ∷ []) st z position) same (absent_now s lists n.index n.generation position body_after here list mark st place))
 
     -- what another one shows is placed where it was
     mark_absences : AbsencesFit setup cells_after (grown h (Some u))
@@ -103,7 +103,7 @@ module _ {setup : Setup} {x : ShapeInput} {h : Trace} (fits : LazyFits setup x) 
       let called : call ≡ Some (Remove (key_at n.body)) = call_is fits.lists told.list n in_range 2 refl may in
       let lists : ListFits lazy_flags setup (leaving cell_after) = subst (λ (z : ShapeCell). ListFits lazy_flags setup (leaving z)) left_is made.0 in
       let list : ListTold (leaving cell_after) (grown h (Some u)) =
-          subst (λ (q : Option Call). ListTold (leaving cell_after) (grown h (update_for c number q))) called (subst (λ (z : ShapeCell). ListTold (leaving z) (grown h (update_for c number call))) left_is made.1) in
+      subst (λ (q : Option Call). ListTold (leaving cell_after) (grown h (update_for c number q))) called (subst (λ (z : ShapeCell). ListTold (leaving z) (grown h (update_for c number call))) left_is made.1) in
       let fit : LazyFits setup (leaving cell_after) = record { lists = lists; up = mark_up u lists list } in
       let tied : LazyTold setup (leaving cell_after) (grown h (Some u)) = record { list = list; absences = mark_absences u lists list } in (
         subst (λ (z : ShapeCell). LazyFits setup (leaving z)) (sym left_is) fit,

@@ -1,8 +1,7 @@
 -- A new table has no marked record, and one that leaves limbo says no more.
-use Rattle.std.proofs.Common.{◌≡◌, ℕ, ◌<◌, List, [], None, refl, subst, arith, ⊎_elim}
+use Rattle.std.proofs.Common.{◌≡◌, ℕ, List, [], None, refl, subst, arith, ⊎_elim}
 use Rattle.record_memory.specs.declared.books.Setup.{Setup}
 use Rattle.record_rule.specs.Inputs.{ShapeCell, hidden, linked, out, ShapeInput, Trace}
-use Rattle.record_rule.specs.Facts.{At}
 use Rattle.record_rule.specs.Laws.{HiddenCells, opening_shape}
 use Rattle.record_rule.proofs.SeenCells.{cell_before}
 use Rattle.list_facts.specs.Tellings.{IsMarked, still, gone}

@@ -1,5 +1,5 @@
 -- An own record is linked behind a node: no marked record's link names it, so all that marked records say stays.
-use Rattle.std.proofs.Common.{◌≡◌, ◌≢◌, ℕ, ◌-◌, List, length, set, ⊎_elim, Option, Some, sym, refl, ap, ◌∙◌, subst, arith}
+use Rattle.std.proofs.Common.{◌≡◌, ◌≢◌, ℕ, ◌-◌, List, length, set, ⊎_elim, Option, Some, sym, refl, ◌∙◌, subst, arith}
 use Rattle.atomic_table.proofs.Lists.{set_else}
 use Rattle.set_model.specs.declared.calls.Call.{Call}
 use Rattle.row_words.specs.Refs.{RefParts, LinkParts, IsRef}
@@ -7,7 +7,7 @@ use Rattle.row_words.specs.Packing.{IsLink}
 use Rattle.record_memory.specs.declared.books.Setup.{Setup}
 use Rattle.record_rule.specs.Inputs.{ShapeCell, hidden, linked, ShapeInput, Trace}
 use Rattle.record_rule.specs.Facts.{At, link_at, with_link, HasMark, clean, Near, ShapeFacts, FitsNext, update_for}
-use Rattle.record_rule.specs.Laws.{LeadsTo, NodeIs, OutCellsFit, IsNewGeneration, relinked, grown}
+use Rattle.record_rule.specs.Laws.{NodeIs, OutCellsFit, IsNewGeneration, relinked, grown}
 use Rattle.record_rule.proofs.Lists.{one_at}
 use Rattle.list_facts.specs.Lists.{Spot, IsSpot}
 use Rattle.list_facts.specs.Tellings.{IsMarked, still, gone}
@@ -17,7 +17,6 @@ use Rattle.list_facts.proofs.Cells.{linked_spot, no_spot}
 use Rattle.list_facts.proofs.Nodes.{cell_near, spot_near, node_at, node_spot, relinked_is}
 use Rattle.list_facts.proofs.Present.{marked_since}
 use Rattle.list_facts.proofs.Publishing.{own_clean, publishes}
-use Rattle.lazy_facts.specs.Absences.{IsSeen}
 use Rattle.lazy_facts.specs.Lazy.{LazyFits, LazyTold}
 use Rattle.lazy_facts.proofs.Targets.{seen_set, seen_turned, marked_turned}
 use Rattle.lazy_facts.proofs.Keeping.{KeepsTargets, KeepsMarks, absences_kept, up_kept}

@@ -1,9 +1,9 @@
 -- A lock is taken, or taken off: the lists are as they were, and so is what ties them to the history.
-use Rattle.std.proofs.Common.{◌≡◌, ℕ, ◌<◌, List, length, set, None}
+use Rattle.std.proofs.Common.{◌≡◌, ℕ, ◌<◌, length, set, None}
 use Rattle.row_words.specs.Refs.{LinkParts}
 use Rattle.row_words.specs.Packing.{IsLink}
 use Rattle.record_memory.specs.declared.books.Setup.{Setup}
-use Rattle.record_rule.specs.Inputs.{ShapeCell, ShapeInput, Trace}
+use Rattle.record_rule.specs.Inputs.{ShapeInput, Trace}
 use Rattle.record_rule.specs.Facts.{At, with_link, HasMark, Near, ShapeFacts}
 use Rattle.record_rule.specs.Laws.{NodeIs, relinked, grown}
 use Rattle.list_facts.proofs.Nodes.{cell_near, node_at, relinked_is}

@@ -1,5 +1,5 @@
 -- A marked record is taken off its predecessor's link: it says what it said, and so does every other.
-use Rattle.std.proofs.Common.{◌≡◌, ◌≢◌, ℕ, ◌-◌, List, [], ◌∷◌, ◌++◌, length, set, ⊎_elim, Some, None, sym, refl, ap, ◌∙◌, subst, arith}
+use Rattle.std.proofs.Common.{◌≡◌, ℕ, List, [], ◌∷◌, ◌++◌, length, set, ⊎_elim, Some, None, sym, refl, ◌∙◌, subst, arith}
 use Rattle.atomic_table.proofs.Lists.{set_else}
 use Rattle.row_words.specs.Refs.{RefParts, LinkParts}
 use Rattle.row_words.specs.Packing.{IsLink}
@@ -14,7 +14,6 @@ use Rattle.list_facts.proofs.Bodies.{clear_flags}
 use Rattle.list_facts.proofs.Nodes.{cell_near, node_at, relinked_is}
 use Rattle.list_facts.proofs.Present.{marked_at, marked_since}
 use Rattle.list_facts.proofs.Unlinking.{gone_mark, gone_linked, apart, unlinks}
-use Rattle.lazy_facts.specs.Absences.{IsSeen}
 use Rattle.lazy_facts.specs.Lazy.{LazyFits, LazyTold}
 use Rattle.lazy_facts.proofs.Targets.{seen_set, seen_turned, marked_turned}
 use Rattle.lazy_facts.proofs.Keeping.{KeepsTargets, KeepsMarks, absences_kept, up_kept}

@@ -6,10 +6,10 @@ use Rattle.set_model.specs.Histories.{keys_of}
 use Rattle.row_words.specs.Refs.{RefParts, LinkParts}
 use Rattle.record_memory.specs.declared.books.Setup.{Setup}
 use Rattle.record_rule.specs.Inputs.{ShapeCell, linked, out, ShapeInput, Start, Trace}
-use Rattle.record_rule.specs.Facts.{At, link_at, key_at, HasMark, Near, at_root, at_held, ShapeFacts}
+use Rattle.record_rule.specs.Facts.{At, link_at, key_at, Near, at_root, at_held, ShapeFacts}
 use Rattle.record_rule.specs.Laws.{NodeIs, root_at, TargetSeen, no_target, lost, there, there_out}
 use Rattle.list_facts.specs.Lists.{ListFits, Spot, IsSpot}
-use Rattle.list_facts.specs.Tellings.{IsPresent, ListTold, rank_of, rank_at, home_at, IsTargetSeen, ListShown}
+use Rattle.list_facts.specs.Tellings.{IsPresent, ListTold, rank_of, IsTargetSeen, ListShown}
 use Rattle.list_facts.proofs.Spots.{nothing_between}
 use Rattle.list_facts.proofs.Cells.{linked_spot, one_spot, no_spot, rank_linked, ordered}
 use Rattle.list_facts.proofs.Nodes.{cell_near, spot_near, cell_fits, spot_fits, flags_fit, target_is}
