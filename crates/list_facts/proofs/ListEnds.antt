@@ -30,7 +30,7 @@ any_sorted flags (root generation body m) h = (tt, h.1)
 any_sorted flags (linked generation body m) h = (tt, h.1)
 any_sorted flags (out generation body m n) h = (tt, h.1)
 
-any_fits : (flags : ℕ → Type 0) {setup : Setup} {x : ShapeInput} → ListFits flags setup x → ListFits any_flags setup x
+pub any_fits : (flags : ℕ → Type 0) {setup : Setup} {x : ShapeInput} → ListFits flags setup x → ListFits any_flags setup x
 any_fits flags f = record { next = f.next; one = f.one; gap = f.gap; later = f.later; sorted = λ i cell at. any_sorted flags cell (f.sorted i cell at) }
 
 module _ {setup : Setup} {words : List ℕ} {records : List Record} (numbers : IsSetup setup) (c : AreListed setup words records) where

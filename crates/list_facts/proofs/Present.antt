@@ -1,5 +1,5 @@
 -- Which keys the cells of a list have and which records are marked there, after one cell was set.
-use Rattle.std.proofs.Common.{◌≡◌, ◌≢◌, ℕ, ◌+◌, ◌⊎◌, List, set, count_by, Bool, cond, sym, refl, ap, ◌∙◌, subst, arith, inl, inr, ⊎_elim}
+use Rattle.std.proofs.Common.{◌≡◌, ◌≢◌, ℕ, ◌+◌, ◌≤◌, ◌⊎◌, List, set, count_by, Bool, cond, sym, refl, ap, ◌∙◌, subst, arith, inl, inr, ⊎_elim}
 use Rattle.std.proofs.lemmas.Bool.{cases_eq}
 use Rattle.std.proofs.lemmas.List.Sums.{sum_by-set}
 use Rattle.atomic_table.proofs.Lists.{at_set, set_here, set_else}
@@ -41,17 +41,31 @@ present_at cells i k (root generation body m) at has = absurd has
 present_at cells i k (linked generation body m) at has = (i, generation, m, body, at, has.0, has.1)
 present_at cells i k (out generation body m n) at has = absurd has
 
+-- where the cell is a record that was taken out, that was at this number or a later one
+abbrev pub IsOutSince : ℕ → ShapeCell → Type 0
+IsOutSince start hidden = Unit {0}
+IsOutSince start (root generation body m) = Unit {0}
+IsOutSince start (linked generation body m) = Unit {0}
+IsOutSince start (out generation body m n) = start ≤ n
+
+-- at whatever number it was
+out_any : (cell : ShapeCell) → IsOutSince 0 cell
+out_any hidden = tt
+out_any (root generation body m) = tt
+out_any (linked generation body m) = tt
+out_any (out generation body m n) = omega arith
+
 -- the cell of a marked record
-marked_cell : {cells : List ShapeCell} {i m : ℕ} {body : List ℕ} → IsMarked cells i body m 0 → (cell : ShapeCell) × At cells i cell × MarkedAs cell body m
-marked_cell {i = i} {m = m} {body = body} (still generation at mark) = (linked generation body m, at, (mark, refl, refl))
-marked_cell {i = i} {m = m} {body = body} (gone generation n at late) = (out generation body m n, at, (refl, refl))
+marked_cell : {cells : List ShapeCell} {i m start : ℕ} {body : List ℕ} → IsMarked cells i body m start → (cell : ShapeCell) × At cells i cell × MarkedAs cell body m × IsOutSince start cell
+marked_cell {i = i} {m = m} {body = body} (still generation at mark) = (linked generation body m, at, (mark, refl, refl), tt)
+marked_cell {i = i} {m = m} {body = body} (gone generation n at late) = (out generation body m n, at, (refl, refl), late)
 
 -- and back
-marked_at : (cells : List ShapeCell) (i m : ℕ) (body : List ℕ) (cell : ShapeCell) → At cells i cell → MarkedAs cell body m → IsMarked cells i body m 0
-marked_at cells i m body hidden at is = absurd is
-marked_at cells i m body (root generation b n) at is = absurd is
-marked_at cells i m body (linked generation b n) at is = subst (λ z. IsMarked cells i body z 0) is.2 (subst (λ z. IsMarked cells i z n 0) is.1 (still generation at is.0))
-marked_at cells i m body (out generation b n k) at is = subst (λ z. IsMarked cells i body z 0) is.1 (subst (λ z. IsMarked cells i z n 0) is.0 (gone generation k at (omega arith)))
+pub marked_at : (cells : List ShapeCell) (i m start : ℕ) (body : List ℕ) (cell : ShapeCell) → At cells i cell → MarkedAs cell body m → IsOutSince start cell → IsMarked cells i body m start
+marked_at cells i m start body hidden at is since = absurd is
+marked_at cells i m start body (root generation b n) at is since = absurd is
+marked_at cells i m start body (linked generation b n) at is since = subst (λ z. IsMarked cells i body z start) is.2 (subst (λ z. IsMarked cells i z n start) is.1 (still generation at is.0))
+marked_at cells i m start body (out generation b n k) at is since = subst (λ z. IsMarked cells i body z start) is.1 (subst (λ z. IsMarked cells i z n start) is.0 (gone generation k at since))
 
 module _ (cells : List ShapeCell) (i : ℕ) (a b : ShapeCell) (was : At cells i a) where
   -- the cell that was set
@@ -91,16 +105,20 @@ module _ (cells : List ShapeCell) (i : ℕ) (a b : ShapeCell) (was : At cells i 
       (λ t. present_at cells t.0 k t.1 t.3 t.4)
       (present_set k p)
 
-  -- a marked record is in the new cell or was there
-  pub marked_set : (j m : ℕ) (body : List ℕ) → IsMarked (set cells i b) j body m 0 → ((j ≡ i) × MarkedAs b body m) ⊎ IsMarked cells j body m 0
-  marked_set j m body p = let t = marked_cell p in ⊎_elim
-      (λ e. inl (e.0, subst (λ c. MarkedAs c body m) (sym e.1) t.2))
-      (λ e. inr (marked_at cells j m body t.0 e.1 t.2))
+  -- a record that is marked, and wasn't taken out before some start, is in the new cell or was there
+  pub marked_since : (j m start : ℕ) (body : List ℕ) → IsMarked (set cells i b) j body m start → ((j ≡ i) × MarkedAs b body m × IsOutSince start b) ⊎ IsMarked cells j body m start
+  marked_since j m start body p = let t = marked_cell p in ⊎_elim
+      (λ e. inl (e.0, subst (λ c. MarkedAs c body m) (sym e.1) t.2, subst (IsOutSince start) (sym e.1) t.3))
+      (λ e. inr (marked_at cells j m start body t.0 e.1 t.2 t.3))
       (at_set cells i j b t.0 t.1)
+
+  -- so is one that is marked
+  pub marked_set : (j m : ℕ) (body : List ℕ) → IsMarked (set cells i b) j body m 0 → ((j ≡ i) × MarkedAs b body m) ⊎ IsMarked cells j body m 0
+  marked_set j m body p = ⊎_elim (λ e. inl (e.0, e.1)) inr (marked_since j m 0 body p)
 
   -- none is marked that wasn't, where the new cell has no mark that the old one hadn't
   pub marked_less : ((m : ℕ) (body : List ℕ) → MarkedAs b body m → MarkedAs a body m) → (j m : ℕ) (body : List ℕ) → IsMarked (set cells i b) j body m 0 → IsMarked cells j body m 0
   marked_less keeps j m body p = ⊎_elim
-      (λ e. subst (λ z. IsMarked cells z body m 0) (sym e.0) (marked_at cells i m body a was (keeps m body e.1)))
+      (λ e. subst (λ z. IsMarked cells z body m 0) (sym e.0) (marked_at cells i m 0 body a was (keeps m body e.1) (out_any a)))
       (λ was. was)
       (marked_set j m body p)

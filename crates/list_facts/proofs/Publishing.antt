@@ -16,7 +16,7 @@ use Rattle.record_rule.proofs.Lists.{below_at, each_set}
 use Rattle.list_facts.specs.Lists.{Spot, IsSpot, IsSorted, ListFits}
 use Rattle.list_facts.specs.Tellings.{IsPresent, ListTold}
 use Rattle.record_rule.specs.Machines.{set_legal}
-use Rattle.list_facts.specs.Steps.{IsAbove, MayPublish}
+use Rattle.list_facts.specs.Steps.{IsAbove, IsNode, MayPublish}
 use Rattle.list_facts.proofs.Spots.{target_of, Ordered, nothing_between}
 use Rattle.list_facts.proofs.Inserting.{Came, turned, fresh, stayed, inserted}
 use Rattle.list_facts.proofs.Bodies.{link_again, clear_flags}
@@ -33,6 +33,11 @@ above_next {cells = cells} setup (at_next r note i generation m body near) t ran
     let at : t.index - 1 ≡ i = ap (λ (u : RefParts). u.index - 1) (sym same) ∙ index_held near in
     let held = spot_held setup a near tt (subst (λ j. IsSpot setup cells j a) at stands) in
     omega (arith, held.1, rank_known near above.1, above.0)
+
+-- the link of a record that may be linked is the expected one, without flags
+pub node_link : {s : ShapeFacts} {cells : List ShapeCell} {near : Near} {f generation k : ℕ} {old : LinkParts} {body : List ℕ} → NodeIs s cells near f old → IsNode generation k old body → link_at body 3 ≡ record old { flags = 0 }
+node_link {f = f} {generation = generation} n node =
+    ap link_in node.link_is ∙ subst (λ (j : LinkParts). link_in (packed_link generation (record j { flags = 0 })) ≡ record j { flags = 0 }) n.word (link_again generation (word_in n.body f) 0 (omega arith))
 
 -- `plain` are flags without the mark's
 module _ {flags : ℕ → Type 0} {setup : Setup} {x : ShapeInput} {h : Trace} (fits : ListFits flags setup x) (told : ListTold x h) {s : ShapeFacts} {near : Near} {f : ℕ} {old : LinkParts} {body : List ℕ} {next : Option Near} {call : Option Call} (n : NodeIs s x.cells near f old)
@@ -59,7 +64,7 @@ module _ {flags : ℕ → Type 0} {setup : Setup} {x : ShapeInput} {h : Trace} (
 
   -- its link is the node's, without flags
   own_link : link_at body 3 ≡ record old { flags = 0 }
-  own_link = ap link_in may.node.link_is ∙ subst (λ (j : LinkParts). link_in (packed_link may.generation (record j { flags = 0 })) ≡ record j { flags = 0 }) n.word (link_again may.generation (word_in n.body f) 0 (omega arith))
+  own_link = node_link n may.node
 
   -- so it has no mark
   pub own_clean : ¬ HasMark (link_at body 3)

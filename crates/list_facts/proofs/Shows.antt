@@ -6,10 +6,10 @@ use Rattle.set_model.specs.Histories.{keys_of}
 use Rattle.row_words.specs.Refs.{RefParts, LinkParts}
 use Rattle.record_memory.specs.declared.books.Setup.{Setup}
 use Rattle.record_rule.specs.Inputs.{ShapeCell, linked, out, ShapeInput, Start, Trace}
-use Rattle.record_rule.specs.Facts.{At, link_at, key_at, HasMark, Near, at_root, at_held, ShapeFacts}
+use Rattle.record_rule.specs.Facts.{At, link_at, key_at, Near, at_root, at_held, ShapeFacts}
 use Rattle.record_rule.specs.Laws.{NodeIs, root_at, TargetSeen, no_target, lost, there, there_out}
 use Rattle.list_facts.specs.Lists.{ListFits, Spot, IsSpot}
-use Rattle.list_facts.specs.Tellings.{IsPresent, ListTold, rank_of, rank_at, home_at, IsTargetSeen, ListShown}
+use Rattle.list_facts.specs.Tellings.{IsPresent, ListTold, rank_of, IsTargetSeen, ListShown}
 use Rattle.list_facts.proofs.Spots.{nothing_between}
 use Rattle.list_facts.proofs.Cells.{linked_spot, one_spot, no_spot, rank_linked, ordered}
 use Rattle.list_facts.proofs.Nodes.{cell_near, spot_near, cell_fits, spot_fits, flags_fit, target_is}
@@ -52,32 +52,34 @@ linked_at : (s : ShapeFacts) (cells : List ShapeCell) (near : Near) (i generatio
 linked_at s cells (at_root n) i generation m body held at = let no : ⊥ = cc in absurd no
 linked_at s cells (at_held r note) i generation m body held at = at
 
-module _ {flags : ℕ → Type 0} {setup : Setup} {x : ShapeInput} {h : Trace} (fits : ListFits flags setup x) (told : ListTold x h)
-    {s : ShapeFacts} {near : Near} {f : ℕ} {l : LinkParts} {target : Option (List ℕ)} (n : NodeIs s x.cells near f l) (seen : TargetSeen s x.cells l.target target) where
-  -- no key is present between the node and what its link leads to
-  none_between : ¬ HasMark (link_at n.body 3) → f ≡ 3 → IsTargetSeen (link_at n.body 3).target target → (k : ℕ) → k % setup.roots ≡ home_at setup (root_at s near) n.body → rank_at (root_at s near) n.body < k + 1
-      → MatchOption (rank_of target) (Unit {0}) (λ r. k + 1 < r) → IsPresent x.cells k → ⊥
-  none_between clear field known k home low high p =
-      let link = target_is n field in
-      let lt = nothing_between (IsSpot setup x.cells) n.index (spot_near s setup near n.generation n.body) (k + 1) (ordered fits) (spot_fits fits n.fits clear)
-      (λ t c e at. above_seen s setup x.cells seen t k c (sym link ∙ e) (subst (λ o. IsTargetSeen o target) link known) at high)
+module _ {flags : ℕ → Type 0} {setup : Setup} {x : ShapeInput} (fits : ListFits flags setup x) (s : ShapeFacts) (i : ℕ) (a : Spot) (here : IsSpot setup x.cells i a) {target : Option (List ℕ)} (seen : TargetSeen s x.cells (link_at a.body 3).target target) where
+  -- no key is present between what stands somewhere and what its link leads to
+  pub none_behind : IsTargetSeen (link_at a.body 3).target target → (k : ℕ) → k % setup.roots ≡ a.home → a.rank < k + 1 → MatchOption (rank_of target) (Unit {0}) (λ r. k + 1 < r) → IsPresent x.cells k → ⊥
+  none_behind known k home low high p =
+      let lt = nothing_between (IsSpot setup x.cells) i a (k + 1) (ordered fits) here
+      (λ t c e at. above_seen s setup x.cells seen t k c e known at high)
       p.0 (linked_spot setup p.1 p.3) (linked p.1 p.3 p.2, p.4, refl) (ap (λ q. q % setup.roots) p.6 ∙ home) (omega (arith, low, p.6)) in
       omega (arith, lt, p.6)
 
-  -- what the link leads to stands behind the node
-  up : ¬ HasMark (link_at n.body 3) → f ≡ 3 → (b : List ℕ) → target ≡ Some b → (key_at b % setup.roots ≡ home_at setup (root_at s near) n.body) × (rank_at (root_at s near) n.body < key_at b + 1)
-  up clear field b known =
+  -- and that stands behind it
+  pub up_behind : (b : List ℕ) → target ≡ Some b → (key_at b % setup.roots ≡ a.home) × (a.rank < key_at b + 1)
+  up_behind b known =
       let to = leads_seen s x.cells seen b known in
-      let a = spot_near s setup near n.generation n.body in
-      let leads = fits.next n.index a to.0 (spot_fits fits n.fits clear) (target_is n field ∙ to.1) in
+      let leads = fits.next i a to.0 here to.1 in
       let is = body_seen s setup x.cells seen to.0 leads.0 b to.1 known leads.2 in
       (sym is.0 ∙ leads.4, (let rank = leads.5 in let e = is.1 in omega arith))
+
+module _ {flags : ℕ → Type 0} {setup : Setup} {x : ShapeInput} {h : Trace} (fits : ListFits flags setup x) (told : ListTold x h) {s : ShapeFacts} {near : Near} {f : ℕ} {l : LinkParts} {target : Option (List ℕ)} (n : NodeIs s x.cells near f l) (seen : TargetSeen s x.cells l.target target) where
+  -- what is seen is what the node's link leads to
+  node_seen : f ≡ 3 → TargetSeen s x.cells (link_at n.body 3).target target
+  node_seen field = subst (λ o. TargetSeen s x.cells o target) (sym (target_is n field)) seen
 
   -- what the load of a node's link shows
   pub shows : (start : Start) → ListShown flags setup (record { node = root_at s near; body = n.body; field = f; target = target; marked = n.marked; start = start }) h.updates
   shows start = record {
     flagged = flags_fit fits n.fits;
-    up = λ clear field b known. up clear field b known;
-    between = λ clear field known k home low high. false_from_ne_true (contains (keys_of h.updates) k) (λ has. none_between clear field known k home low high ((told.keys k).0 has));
+    up = λ clear field b known. up_behind fits s n.index (spot_near s setup near n.generation n.body) (spot_fits fits n.fits clear) (node_seen field) b known;
+    between = λ clear field known k home low high. false_from_ne_true (contains (keys_of h.updates) k)
+        (λ has. none_behind fits s n.index (spot_near s setup near n.generation n.body) (spot_fits fits n.fits clear) (node_seen field) known k home low high ((told.keys k).0 has));
     present = λ clear held. (told.keys (key_at n.body)).1 (n.index, n.generation, n.marked, n.body, linked_at s x.cells near n.index n.generation n.marked n.body held (cell_fits fits n.fits clear), clear, refl);
   }

@@ -48,7 +48,7 @@ removal_last : (updates : List Update) (c number k m : ℕ) (body : List ℕ) �
 removal_last updates c number k m body last is = (omega arith, (update c number k false, at_last updates (update c number k false) (m - 1) (omega arith), sym is, refl))
 
 -- a marked record, linked or taken out behind some start, is marked
-marked_any : {cells : List ShapeCell} {i m start : ℕ} {body : List ℕ} → IsMarked cells i body m start → IsMarked cells i body m 0
+pub marked_any : {cells : List ShapeCell} {i m start : ℕ} {body : List ℕ} → IsMarked cells i body m start → IsMarked cells i body m 0
 marked_any (still generation at mark) = still generation at mark
 marked_any (gone generation n at late) = gone generation n at (omega arith)
 

@@ -24,6 +24,13 @@ use Rattle.list_facts.proofs.Nodes.{cell_near, spot_near, named, index_held, spo
 use Rattle.list_facts.proofs.Turning.{not_itself, target_after, cell_sorted, turned_node, turned_from, leads_turned, out_turned}
 use Rattle.list_facts.proofs.Told.{told_moved, told_turned}
 
+-- the link of a record whose note has the new one with a mark is that
+pub noted_link : {s : ShapeFacts} {cells : List ShapeCell} {gone : RefParts} {note : Note} {new : LinkParts} {i generation k : ℕ} {body : List ℕ}
+    → FitsNear s cells (at_held gone note) i generation body k → IsLink new → (own : ℕ) × At note.words 0 (Some (packed_link own (marked_with new))) → link_at body 3 ≡ marked_with new
+noted_link {new = new} held in_range (own, known) =
+    let marks : IsLink (marked_with new) = record { flags = omega arith; target = in_range.target } in
+    ap link_in (fits_body _ _ _ _ _ _ _ held 0 (packed_link own (marked_with new)) known).0 ∙ link_in-packed_link own (marked_with new) marks
+
 module _ {flags : ℕ → Type 0} {setup : Setup} {x : ShapeInput} {h : Trace} (fits : ListFits flags setup x) (told : ListTold x h) {s : ShapeFacts} {near : Near} {f : ℕ} {gone : RefParts} {note : Note} {old new : LinkParts} {i generation k : ℕ} {body : List ℕ}
     (n : NodeIs s x.cells near f old) (to : old.target ≡ Some gone) (old_clear : ¬ HasMark old) (held : FitsNear s x.cells (at_held gone note) i generation body k) (in_range : IsLink new) (may : MayUnlink setup near f (at_held gone note) new) where
   -- where the node stands
@@ -36,9 +43,7 @@ module _ {flags : ℕ → Type 0} {setup : Setup} {x : ShapeInput} {h : Trace} (
 
   -- the link of the record that goes is the new one with a mark
   gone_link : link_at body 3 ≡ marked_with new
-  gone_link =
-      let marks : IsLink (marked_with new) = record { flags = omega arith; target = in_range.target } in
-      ap link_in (fits_body _ _ _ _ _ _ _ held 0 (packed_link may.1.0 (marked_with new)) may.1.1).0 ∙ link_in-packed_link may.1.0 (marked_with new) marks
+  gone_link = noted_link held in_range may.1
 
   -- so it has a mark
   pub gone_mark : HasMark (link_at body 3)

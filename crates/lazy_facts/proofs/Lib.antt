@@ -1,0 +1,12 @@
+pub mod Keeping
+pub mod Targets
+pub mod Absences
+pub mod Relocking
+pub mod Marking
+pub mod Publishing
+pub mod Unlinking
+pub mod Openings
+pub mod Shows
+pub mod LazyLaws
+pub mod Unlocked
+pub mod LazyLists
