@@ -24,6 +24,8 @@ use Rattle.lazy_facts.proofs.Publishing.{lazy_publishes}
 use Rattle.lazy_facts.proofs.Unlinking.{lazy_unlinks}
 use Rattle.lazy_facts.proofs.Openings.{lazy_opening, lazy_hiding}
 use Rattle.lazy_facts.proofs.Shows.{lazy_shows}
+use Rattle.lazy_facts.proofs.Unlocked.{locked_stands, published_unlocked, taken_out_unlocked, left_unlocked}
+use Rattle.std.proofs.lemmas.Bool.{eqb-true}
 
 module _ (setup : Setup) (x : ShapeInput) (h : Trace) (t : NodeStep) (given : Given lazy setup x h) (n : NodeIs lazy x.cells t.near t.field t.old) where
   -- the table once the node's link was left
@@ -91,6 +93,10 @@ lazy_laws = record {
   keys_stand = λ setup x near f l fits n. refl;
   reaches = λ setup x near f l t fits n hold clear e. reaches fits.lists n hold clear t e;
   exchanges = λ setup x h t new given n in_range may. turn_keeps setup x h t given n new in_range may;
+  locks = λ setup x t new fits n may lockable free lock generation m k body is. locked_stands fits n may free lock generation m k body is;
+  comes_unlocked = λ setup x t body next n may g lockable low. published_unlocked n may g (eqb-true g 3 lockable);
+  goes_unlocked = λ setup x t gone note new next i generation m body fits held in_range may g lockable low. taken_out_unlocked held in_range may.1.1 g (eqb-true g 3 lockable);
+  leaves_unlocked = λ setup t gone note new next may lockable. left_unlocked new may.1.2;
   publishes = λ setup x h t own body marked next given n fits_next free ref long name may. publish_keeps setup x h t given n own body marked next fits_next free ref name may;
   gone_linked = λ setup x t gone note new next fits n to may. let clear = clear_flags t.old 2 refl may.0 in (reaches fits.lists n may.1.0 clear gone to, not_itself fits.lists n may.1.0 clear gone to);
   unlinks = λ setup x h t gone note new next i generation m body given n to held behind in_range may. unlink_keeps setup x h t given n gone note new i generation m body to held in_range may;

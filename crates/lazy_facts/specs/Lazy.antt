@@ -1,5 +1,5 @@
 -- The facts of the lazy list: sorted lists whose links are locked by a flag, and whose marked records may be walked over.
-use Rattle.std.specs.Prelude.{◌≡◌, ℕ, ◌+◌, ◌-◌, ◌%◌, ◌<◌, ◌≤◌, ◌⊎◌, List, length, take, false, Option, Some, None}
+use Rattle.std.specs.Prelude.{◌≡◌, ℕ, ◌+◌, ◌-◌, ◌%◌, ◌<◌, ◌≤◌, ◌⊎◌, ◌==◌, List, length, take, false, Option, Some, None}
 use Rattle.set_model.specs.declared.calls.Call.{Call}
 use Rattle.set_model.specs.declared.calls.Update.{Update}
 use Rattle.set_model.specs.declared.names.SetName.TheVariants.{Lazy}
@@ -73,7 +73,7 @@ lazy = record {
   may_exchange = MayTurn;
   may_publish = MayPublish 2;
   may_unlink = λ setup near f old gone new next call. (old.flags ≡ 2) × MayUnlink setup near f gone new × (call ≡ None);
-  lockable = λ f. f ≡ 3;
+  lockable = λ f. f == 3;
   may_hold_frozen = λ setup near kept f. f ≡ 3;
   shown = λ setup y updates. LazyShown setup y updates;
 }

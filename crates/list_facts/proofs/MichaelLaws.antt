@@ -33,8 +33,8 @@ michael_laws = record {
   };
   -- no word may be locked
   locks = λ setup x t new fits n may lockable. let none : ⊥ = cc in absurd none;
-  comes_unlocked = λ setup t body next may g lockable. let none : ⊥ = cc in absurd none;
-  goes_unlocked = λ setup x t gone note new next i generation m body fits held may g lockable. let none : ⊥ = cc in absurd none;
+  comes_unlocked = λ setup x t body next n may g lockable. let none : ⊥ = cc in absurd none;
+  goes_unlocked = λ setup x t gone note new next i generation m body fits held link may g lockable. let none : ⊥ = cc in absurd none;
   leaves_unlocked = λ setup t gone note new next may lockable. let none : ⊥ = cc in absurd none;
   publishes = λ setup x h t own body marked next given n fits_next free ref long name may. let clear = clean_link n may.field (clear_flags t.old 0 refl may.flags_are) in record {
     stands = publishes given.1.0 given.1.1 n 0 refl fits_next may free ref marked t.caller t.number (omega arith);

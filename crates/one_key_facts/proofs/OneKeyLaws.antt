@@ -86,8 +86,8 @@ one_key_laws = record {
   exchanges = λ setup x h t new given n in_range may. mark_keeps setup x h t.caller t.number t.near t.field t.old new t.call given n in_range may;
   -- no word may be locked
   locks = λ setup x t new fits n may lockable. let none : ⊥ = cc in absurd none;
-  comes_unlocked = λ setup t body next may g lockable. let none : ⊥ = cc in absurd none;
-  goes_unlocked = λ setup x t gone note new next i generation m body fits held may g lockable. let none : ⊥ = cc in absurd none;
+  comes_unlocked = λ setup x t body next n may g lockable. let none : ⊥ = cc in absurd none;
+  goes_unlocked = λ setup x t gone note new next i generation m body fits held link may g lockable. let none : ⊥ = cc in absurd none;
   leaves_unlocked = λ setup t gone note new next may lockable. let none : ⊥ = cc in absurd none;
   publishes = λ setup x h t own body marked next given n fits_next free ref long name may. link_keeps setup x h t.caller t.number t.near t.field t.old own body marked t.call given n free ref may;
   gone_linked = λ setup x t gone note new next fits n to may. gone_linked x t.near t.field t.old gone note new t.call fits n to may;

@@ -175,7 +175,7 @@ module _ (shape : ShapeFacts) (cover : CoverFacts) (setup : Setup) (is_setup : I
                 (balances_same setup.first v.own.moves v.own.moves q q' refl refl refl refl refl (sym (ap drawn_as x.place)) (sym (ap retired_as x.place)) (sym (ap freed_as x.place)))) taken (held is_ref) (scheme covering)
                 (subst (λ (l : List ShapeCell). Keeps shape setup (shape_input was) (trace was) (near_of v o) f old node new (own_update v call)
                 record (shape_input was) { cells = set l (index_of o - 1) (cell_after shape cover setup is_setup s u id v at present o n word f is low high same holds new is_new call dec t mine locks records u.taken_out old) }) cells_are kept)
-                (locked (locks_then (shaped.comes_unlocked setup step (drop 3 row) next may)) (marked_after n.node.marked old new (length u.updates))),
+                (locked (locks_then (shaped.comes_unlocked setup (shape_input was) step (drop 3 row) next node may)) (marked_after n.node.marked old new (length u.updates))),
             record {
               updates = u.updates;
               taken_out = u.taken_out;

@@ -138,13 +138,13 @@ module _ (shape : ShapeFacts) (cover : CoverFacts) (shaped : ShapeLaws shape) (s
       (covering.takes setup (scheme_input was) k c r.generation (birth r) (safe shape cover setup u.records u.books u.taken_out u.updates m u.places u.parts) u.parts.scheme (at_map scheme_cell u.records k r q.there ∙ ap some was_cells.scheme_is))
 
   -- no link of it is locked, so there are as many locks
-  locks_then : LocksFit shape (map shape_cell records) was.locks
-  locks_then = subst (λ (l : List ShapeCell). LocksFit shape l was.locks) cells_are
+  locks_then : IsLink new → LocksFit shape (map shape_cell records) was.locks
+  locks_then is_link = subst (λ (l : List ShapeCell). LocksFit shape l was.locks) cells_are
       (locks_moved shape was.shapes was.locks u.parts.locks k (linked r.generation (drop 3 r.row) r.marked) (out r.generation (drop 3 r.row) r.marked count) (at_map shape_cell u.records k r q.there ∙ ap some was_cells.shape_is)
       (λ body e. let same : drop 3 r.row ≡ body = cc in free body same) (λ body e. let same : drop 3 r.row ≡ body = cc in free body same))
     where
       free : (body : List ℕ) → drop 3 r.row ≡ body → (g : ℕ) → shape.lockable g ≡ true → 3 ≤ g → ¬ HasLock (link_at body g)
-      free body same g lockable low flag = shaped.goes_unlocked setup (shape_input was) step gone (note_in v.own.notes p) new next k r.generation r.marked (drop 3 r.row) u.parts.shape q.fits may g lockable low (subst (λ (b : List ℕ). HasLock (link_at b g)) (sym same) flag)
+      free body same g lockable low flag = shaped.goes_unlocked setup (shape_input was) step gone (note_in v.own.notes p) new next k r.generation r.marked (drop 3 r.row) u.parts.shape q.fits is_link may g lockable low (subst (λ (b : List ℕ). HasLock (link_at b g)) (sym same) flag)
 
   module _ (word : ℕ) (is : word ≡ address setup.callers (Field (index_of o) f)) (high : f < 8) (covering : CoverLaws cover) (same : v.setup ≡ setup) (holds : Holds v o) (is_link : IsLink new)
       (kind : StepKind) (calm : IsCalm kind) (locks : List LockedWord) (locked : LocksFit shape (map shape_cell records) was.locks → Locked shape cover setup is_setup s u id v at present o n f low high records node_there new is_link locks) where
@@ -181,7 +181,7 @@ module _ (shape : ShapeFacts) (cover : CoverFacts) (shaped : ShapeLaws shape) (s
           (ap (λ (e : ℕ). set v.own.mine k (Some (record { standing = TakenOut; generation = e; taken_number = count; words = take 3 r.row }))) (sym q.generation)) (calm_after v.own.drawing v.setup.records t calm))
           (counts_moved setup.first u.records u.books c v.own w.own (book shape cover setup s u id v at present) u.counts k r r' q.there
           (balances_same setup.first v.own.moves v.own.moves r r' refl refl refl refl refl (sym (ap drawn_as gone_place)) (sym (ap retired_as gone_place)) (sym (ap freed_as gone_place)))) taken held (scheme covering) kept
-          (locked locks_then (marked_after n.node.marked old new (length u.updates))),
+          (locked (locks_then is_link) (marked_after n.node.marked old new (length u.updates))),
       record {
         updates = u.updates;
         taken_out = u.taken_out;

@@ -150,12 +150,12 @@ module _ (s : ShapeFacts) where
         → Keeps setup x h t.near t.field t.old n (clean own) (update_by t)
         (record x { cells = slice_set (slice_set x.cells (own.index - 1) (linked own.generation body marked)) n.index (relinked x.cells t.near t.field t.old n (clean own) (length h.updates)) })
     -- No link of a record that may be linked is locked
-    pub comes_unlocked : (setup : Setup) (t : NodeStep) (body : List ℕ) (next : Option Near) → s.may_publish setup t.near t.field t.old body next t.call → (g : ℕ) → s.lockable g ≡ true → 3 ≤ g → ¬ HasLock (link_at body g)
+    pub comes_unlocked : (setup : Setup) (x : ShapeInput) (t : NodeStep) (body : List ℕ) (next : Option Near) → NodeIs x.cells t.near t.field t.old → s.may_publish setup t.near t.field t.old body next t.call → (g : ℕ) → s.lockable g ≡ true → 3 ≤ g → ¬ HasLock (link_at body g)
     -- The record that may be taken out is linked, and isn't its own predecessor
     pub gone_linked : (setup : Setup) (x : ShapeInput) (t : NodeStep) (gone : RefParts) (note : Note) (new : LinkParts) (next : Option Near) → s.formed setup x → (n : NodeIs x.cells t.near t.field t.old)
         → t.old.target ≡ Some gone → s.may_unlink setup t.near t.field t.old (at_held gone note) new next t.call → LeadsTo x.cells gone × (n.index ≢ gone.index - 1)
     -- No link of it is locked, and the link that is left in its stead isn't
-    pub goes_unlocked : (setup : Setup) (x : ShapeInput) (t : NodeStep) (gone : RefParts) (note : Note) (new : LinkParts) (next : Option Near) (i generation m : ℕ) (body : List ℕ) → s.formed setup x → FitsNear s x.cells (at_held gone note) i generation body m
+    pub goes_unlocked : (setup : Setup) (x : ShapeInput) (t : NodeStep) (gone : RefParts) (note : Note) (new : LinkParts) (next : Option Near) (i generation m : ℕ) (body : List ℕ) → s.formed setup x → FitsNear s x.cells (at_held gone note) i generation body m → IsLink new
         → s.may_unlink setup t.near t.field t.old (at_held gone note) new next t.call → (g : ℕ) → s.lockable g ≡ true → 3 ≤ g → ¬ HasLock (link_at body g)
     pub leaves_unlocked : (setup : Setup) (t : NodeStep) (gone : RefParts) (note : Note) (new : LinkParts) (next : Option Near) → s.may_unlink setup t.near t.field t.old (at_held gone note) new next t.call → s.lockable t.field ≡ true → ¬ HasLock new
     -- A record is taken off the link of its predecessor, and no key is
