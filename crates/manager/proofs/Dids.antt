@@ -68,7 +68,7 @@ pub store_does : {m : Manner} {k : Setup} (v w : View) (own : RefParts) (word pa
 store_does v w own word payload has e stock = let h = has.1 in let value = packed_number own.generation payload in let is = e ∙ ap (stored_as v own.index word value) h.known in
     does_still refl refl refl
     (hand_same v w own.index (Some h.share) (Some (share_after h.share word value)) h.known (ap (λ (x : View). x.own.mine) is) (known_within v.own.mine (own.index - 1) h.share h.known) (ap (λ q. is_in_hand (standing_after q)) h.standing_is ∙ sym (ap is_in_hand h.standing_is)))
-    (ap (λ (x : View). x.own.moves.retired) is ∙ (stored_moves h.standing v.own.moves).retired)
+    (ap (λ (x : View). x.own.moves.retired) is ∙ (stored_moves h.share.standing v.own.moves).retired)
     ((_, ap (λ (x : View). x.own.steps) is), stock)
 
 -- what was taken out may be retired

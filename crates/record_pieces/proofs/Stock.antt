@@ -126,9 +126,9 @@ module _ (m : Manner) (k : Setup) where
 
   module _ (only : OnlyAdds m k) where
     gets_add : (b : Book) (r : RefParts) (c : Book) → Gets m k b r c → AddsSteps b c
-    gets_add b r _ (from_free n c was one same) = one_adds b c _ one
-    gets_add b r _ (from_pool d n c none came was one same) = adds_both b d c (only.takes b d true came) (one_adds d c _ one)
-    gets_add b r _ (from_draw d c none came drew more) = adds_both b d c (only.takes b d false came) (only.draws d c r drew)
+    gets_add b r _ (from_free n c was one counts) = one_adds b c _ one
+    gets_add b r _ (from_pool d n c none came was one counts) = adds_both b d c (only.takes b d true came) (one_adds d c _ one)
+    gets_add b r _ (from_draw d c none came drew counts) = adds_both b d c (only.takes b d false came) (only.draws d c r drew)
 
     takes_add : (b : Book) (r : RefParts) (c : Book) → Takes m k b r c → AddsSteps b c
     takes_add b r c (from_spare d birth n bears one taken) = adds_both b d c (only.bears b d birth bears) (one_adds d c _ one)

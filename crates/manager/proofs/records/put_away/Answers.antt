@@ -3,6 +3,7 @@ use Rattle.record_memory.specs.declared.books.Moves.{Moves}
 use Rattle.manager.specs.Counted.{shown}
 use Rattle.manager.proofs.MoveCounts.{freed_is, spent_is}
 use Rattle.record_memory.specs.declared.books.Setup.{Setup}
+use Rattle.record_memory.specs.declared.books.View.{View}
 use Rattle.record_table.specs.Handles.{view}
 use Rattle.row_words.specs.declared.links.Chain.{Chain}
 use Rattle.reclaim_api.proofs.Kept.{spare_rest, spare_rest_but, own_rest_but}
@@ -41,10 +42,9 @@ returns-clause-owns g c r own = let a = c.args.caller.now in let e = c.put_away-
     (own_rest_but (view a.pass) (view q) c.args.taken c.requires.taken.0 c.requires.taken.1 e.rest (ap (λ (k : Setup). k.records) e.pass.setup) r own)
 
 pub returns-clause-stock : goal.returns-clause-stock
-returns-clause-stock g c = let a = c.args.caller.now in let b = c.give_chains.new.caller in record {
+returns-clause-stock g c = let a = c.args.caller.now in let b = c.give_chains.new.caller in let u : View = view a.pass in let v : View = view c.put_away-left.new.pass in let w : View = view b.pass in record {
   spare = spares_kept _ a.pass b.pass a.local b.local a.free a.spare b.free b.spare c.requires.caller.chains c.give_chains.ensures.caller.chains (ap (λ (x : Chain). x.count) c.give_chains.ensures.spare);
-  kept = λ r was. stays_kept (view c.put_away-left.new.pass) (view b.pass) (spare_rest _ _ c.give_chains.ensures.free.rest) r
-      (stays_kept (view a.pass) (view c.put_away-left.new.pass) (spare_rest_but _ _ c.args.taken c.requires.taken.0 c.requires.taken.1 c.put_away-left.ensures.rest) r was);
+  kept = λ r was. stays_kept v w (spare_rest v w c.give_chains.ensures.free.rest) r (stays_kept u v (spare_rest_but u v c.args.taken c.requires.taken.0 c.requires.taken.1 c.put_away-left.ensures.rest) r was);
   drawn = ap (λ (m : Moves). m.drawn) c.give_chains.ensures.free.moves ∙ ap (λ (m : Moves). m.drawn) c.put_away-left.ensures.rest.moves;
   reused = ap (λ (m : Moves). m.reused) c.give_chains.ensures.free.moves ∙ ap (λ (m : Moves). m.reused) c.put_away-left.ensures.rest.moves;
   births = ap (λ (m : Moves). m.births) c.give_chains.ensures.free.moves ∙ ap (λ (m : Moves). m.births) c.put_away-left.ensures.rest.moves;
