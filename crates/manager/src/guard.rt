@@ -58,8 +58,8 @@ impl<'a, S: Shape, R: Scheme, A: Allocator, P: Pool> Guard<'a, S, R, A, P> {
     /// Tries to hold, at `place`, what the link of `from` leads to. `place` is below the reclaimer's
     /// `PLACES` and isn't the place of `from`, and `field` is 3, the word that holds a set's link; the set
     /// says which links may be followed. `Held`: the record is held at that place from now on, until
-    /// `finish` or the next use of the place. At every other answer nothing may be used at that place until
-    /// it holds again. What other places hold stays.
+    /// `finish` or the next use of the place. At every other answer that place holds nothing until it holds
+    /// again. What other places hold stays.
     pub fn hold(&mut self, place: u32, from: Node, field: u8) -> Holding
         requires at_work { IsAtWork self.old }
         requires place { place < R.PLACES }
