@@ -91,8 +91,8 @@ module _ (s : ShapeFacts) {S R : Type 0} (p then : Pass S R) (o : Origin) (place
 
     -- where the epoch isn't the upper end, the place holds nothing
     pub holds_none : e ≢ word_of (view p).own.guard 1 → HoldsNothing place q
-    holds_none other r at = (reached_so (record { epoch = 0; taken_out = 0; updates = 0 }) (view p).own.guard (reach_at p place) (Some target)).waits place target refl .2 r
-        (subst (λ (g : Guard). At g.holds place (Some r)) (guard_is ∙ ap (λ (b : Bool). record (cond b (holding waiting place (Some target)) waiting) { readings = e ∷ []; reading_taken_out = h.taken_out }) (ne_eqb e (word_of (view p).own.guard 1) other)) at)
+    holds_none other r at = let reached = reached_so (record { epoch = 0; taken_out = 0; updates = 0 }) (view p).own.guard (reach_at p place) (Some target) in let none = reached.waits place target refl in
+        none.2 r (subst (λ (g : Guard). At g.holds place (Some r)) (guard_is ∙ ap (λ (b : Bool). record (cond b (holding waiting place (Some target)) waiting) { readings = e ∷ []; reading_taken_out = h.taken_out }) (ne_eqb e (word_of (view p).own.guard 1) other)) at)
 
     pub rest_is : (view q).own.guard ≡ record waiting { holds = (view q).own.guard.holds; pending = (view q).own.guard.pending; readings = e ∷ []; reading_taken_out = h.taken_out }
     rest_is = guard_is ∙ ap (λ (g : Guard). record g { readings = e ∷ []; reading_taken_out = h.taken_out }) (confirmed_rest (Some (place, target)) waiting e)
