@@ -17,6 +17,7 @@ use Rattle.record_table.specs.declared.nodes.Found.{Found}
 use Rattle.record_table.specs.declared.nodes.Node.{Node}
 use Rattle.record_table.specs.Nodes.{origin, IsRefused}
 use Rattle.record_pieces.specs.Manners.{Manner}
+use Rattle.manager.proofs.MoveCounts.{stored_moves}
 use Rattle.record_pieces.specs.Hands.{is_in_hand, in_hand}
 use Rattle.record_pieces.specs.Events.{exchanged, published, unlinked, stored_own, Exchanges, KeepsStock, Does}
 use Rattle.record_pieces.proofs.Hands.{hand_mine, hand_same, hand_more, hand_less, does_still}
@@ -29,14 +30,17 @@ module _ (m : Manner) (s : ShapeFacts) (k : Setup) (v w : View) (setup : v.setup
   refused_hand : (old link : LinkParts) → IsRefused v (origin at) old link w → in_hand w.own ≡ in_hand v.own
   refused_hand old link e = hand_mine v.own w.own (ap (λ (x : View). x.own.mine) e.refused.view)
 
+  refused_retired : (old link : LinkParts) → IsRefused v (origin at) old link w → w.own.moves.retired ≡ v.own.moves.retired
+  refused_retired old link e = ap (λ (x : View). x.own.moves.retired) e.refused.view
+
   -- one that is made
   made_does : (old new : LinkParts) → Exchanges v.setup at 3 old new None v.own w.own → Exchanges k at 3 old new None v.own w.own
   made_does old new e = subst (λ (x : Setup). Exchanges x at 3 old new None v.own w.own) setup e
 
   pub exchange_does : {U : Type 0} (old new : LinkParts) (call : Option Call) (r : Result U Found) → MatchResult r (λ _. ExchangedLink s v (origin at) 3 old new call w) (λ found. IsRefused v (origin at) old found.link w)
       → MatchResult r (λ _. Does m k (exchanged at 3 old new call None) v.own w.own) (λ found. Does m k (exchanged at 3 old new call (Some found.link)) v.own w.own)
-  exchange_does old new call (Ok u) e = does_still refl refl (hand_mine v.own w.own (ap (λ (x : View). x.own.mine) e.view)) (made_does old new (ap (λ (x : View). x.own.steps) e.view), stock)
-  exchange_does old new call (Err found) e = does_still refl refl (refused_hand old found.link e) (refused_does old new found.link e, stock)
+  exchange_does old new call (Ok u) e = does_still refl refl refl (hand_mine v.own w.own (ap (λ (x : View). x.own.mine) e.view)) (ap (λ (x : View). x.own.moves.retired) e.view) (made_does old new (ap (λ (x : View). x.own.steps) e.view), stock)
+  exchange_does old new call (Err found) e = does_still refl refl refl (refused_hand old found.link e) (refused_retired old found.link e) (refused_does old new found.link e, stock)
 
   -- of an own record
   pub publish_does : {U : Type 0} (old : LinkParts) (own : RefParts) (row : List ℕ) (call : Option Call) → HasOwn v own row → (r : Result U (RefParts × Found))
@@ -45,8 +49,9 @@ module _ (m : Manner) (s : ShapeFacts) (k : Setup) (v w : View) (setup : v.setup
   publish_does old own row call has (Ok u) e = record {
     acts = (made_does old (clean own) (ap (λ (x : View). x.own.steps) e.view), stock);
     hand = omega (arith, hand_less v w own.index (Some has.share) None has.known (ap (λ (x : View). x.own.mine) e.view) (known_within v.own.mine (own.index - 1) has.share has.known) (ap is_in_hand has.standing_is) refl);
+    retires = omega (arith, ap (λ (x : View). x.own.moves.retired) e.view);
   }
-  publish_does old own row call has (Err back) e = does_still refl refl (refused_hand old back.1.link e.1) (refused_does old (clean own) back.1.link e.1, stock)
+  publish_does old own row call has (Err back) e = does_still refl refl refl (refused_hand old back.1.link e.1) (refused_retired old back.1.link e.1) (refused_does old (clean own) back.1.link e.1, stock)
 
   -- of a held record
   pub unlink_does : (gone : RefParts) (new : LinkParts) → 0 < v.setup.records → (r : Result RefParts Found) → MatchResult r (λ taken. (taken ≡ gone) × UnlinkedRecord s v (origin at) 3 gone new w) (λ found. IsRefused v (origin at) (clean gone) found.link w)
@@ -54,14 +59,16 @@ module _ (m : Manner) (s : ShapeFacts) (k : Setup) (v w : View) (setup : v.setup
   unlink_does gone new any (Ok taken) e = let u = e.1 in record {
     acts = (made_does (clean gone) new (ap (λ (x : View). x.own.steps) u.view), stock);
     hand = omega (arith, hand_more v w gone.index None _ u.none (ap (λ (x : View). x.own.mine) u.view) (let a = u.within in let b = u.mine in omega arith) refl refl);
+    retires = omega (arith, ap (λ (x : View). x.own.moves.retired) u.view);
   }
-  unlink_does gone new any (Err found) e = does_still refl refl (refused_hand (clean gone) found.link e) (refused_does (clean gone) new found.link e, stock)
+  unlink_does gone new any (Err found) e = does_still refl refl refl (refused_hand (clean gone) found.link e) (refused_retired (clean gone) found.link e) (refused_does (clean gone) new found.link e, stock)
 
 -- the store in an own record
 pub store_does : {m : Manner} {k : Setup} (v w : View) (own : RefParts) (word payload : ℕ) → IsOwnOf v own → w ≡ stored v own.index word (packed_number own.generation payload) → KeepsStock v.own w.own → Does m k (stored_own own word payload) v.own w.own
 store_does v w own word payload has e stock = let h = has.1 in let value = packed_number own.generation payload in let is = e ∙ ap (stored_as v own.index word value) h.known in
-    does_still refl refl
+    does_still refl refl refl
     (hand_same v w own.index (Some h.share) (Some (share_after h.share word value)) h.known (ap (λ (x : View). x.own.mine) is) (known_within v.own.mine (own.index - 1) h.share h.known) (ap (λ q. is_in_hand (standing_after q)) h.standing_is ∙ sym (ap is_in_hand h.standing_is)))
+    (ap (λ (x : View). x.own.moves.retired) is ∙ (stored_moves h.share.standing v.own.moves).retired)
     ((_, ap (λ (x : View). x.own.steps) is), stock)
 
 -- what was taken out may be retired

@@ -31,7 +31,7 @@ use Rattle.manager.proofs.MoveCounts.{same_moves, counted_still}
 use Rattle.manager.specs.declared.types.Moved.{Moved}
 use Rattle.manager.specs.Counted.{AreCounted}
 use Rattle.manager.proofs.Stay.{LocalStays, mine_stays, local_still}
-use Rattle.manager.proofs.Stocks.{spares_kept}
+use Rattle.manager.proofs.Stocks.{stays_kept, spares_kept}
 use Rattle.manager.proofs.Entries.{IsAloof, entry_stays, entry_limbo, entry_idle}
 
 -- the step leaves what is in limbo and the records in chains, and the guard is the same or started with it
@@ -65,7 +65,7 @@ module _ {S R L : Type 0} {c : CoverFacts} (is_local : L → Bool → View → V
   }
 
   pub stock_still : HasChains is_local p l free spare → KeepsStock (view p).own (view q).own
-  stock_still h = record { spare = spares_kept is_local p q l l free spare free spare h (chains_still h) refl; drawn = ap (λ (m : Moves). m.drawn) leaves.moves; births = ap (λ (m : Moves). m.births) leaves.moves }
+  stock_still h = record { spare = spares_kept is_local p q l l free spare free spare h (chains_still h) refl; kept = stays_kept (view p) (view q) leaves.spares; drawn = ap (λ (m : Moves). m.drawn) leaves.moves; reused = ap (λ (m : Moves). m.reused) leaves.moves; births = ap (λ (m : Moves). m.births) leaves.moves }
 
 -- and its counts are the same
 pub counts_left : (c : CoverFacts) (v w : View) (n : Moved) → LeavesAll c v w → AreCounted n v.own → AreCounted n w.own

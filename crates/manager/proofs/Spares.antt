@@ -22,6 +22,7 @@ use Rattle.record_rule.specs.Makes.{Makes}
 use Rattle.record_rule.proofs.Makes.{makes_one}
 use Rattle.record_rule.proofs.HandingOut.{known_within}
 use Rattle.record_pieces.specs.Hands.{is_in_hand, in_hand}
+use Rattle.record_pieces.specs.Spares.{IsSpareIn, KeepsSpares}
 use Rattle.record_pieces.proofs.Hands.{hand_less}
 use Rattle.record_rule.proofs.TakesFree.{read_with}
 use Rattle.reclaim_api.specs.Chained.{IsAs, IsChainOf, refs_in}
@@ -30,6 +31,7 @@ use Rattle.reclaim_api.proofs.Kept.{Stays, chain_stays, row_stays, as_stays}
 use Rattle.manager.specs.Callers.{KeepsOwnBut}
 use Rattle.manager.proofs.OneShare.{AwayStays, here, others_stay, limbo_stays}
 use Rattle.manager.proofs.Owns.{owns_but}
+use Rattle.manager.proofs.Stocks.{stays_kept}
 
 -- the chain's first record, where it has one, is in range
 head_in_range : (rows : RefParts → Row) (owns : RefParts → Type 0) (chain : Chain) (refs : List RefParts) → IsList owns rows chain refs → IsTarget chain.head
@@ -83,6 +85,13 @@ module _ (v w : View) (chain after : Chain) (r : RefParts) (row : List ℕ) (lis
 
   spares_stay : Stays Spare v w
   spares_stay = others_stay v w r.index was is own.known pushed_mine Spare (λ e. (let two : Own ≡ Spare = sym own.standing_is ∙ e in let none : ⊥ = cc in none))
+
+  -- as spare they are known in the book, and so is the record
+  pub pushed_kept : KeepsSpares v.own w.own
+  pushed_kept = stays_kept v w spares_stay
+
+  pub pushed_spare : IsSpareIn w.own r
+  pushed_spare = record { share = is; known = here v w r.index was is own.known pushed_mine; spare = refl; generation = own.generation }
 
   -- and so do the other own ones
   pub pushed_owns : KeepsOwnBut r.index v w

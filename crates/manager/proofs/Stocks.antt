@@ -9,14 +9,27 @@ use Rattle.record_rule.specs.Standings.{is_free, is_spare}
 use Rattle.record_table.specs.declared.passes.Pass.{Pass}
 use Rattle.record_table.specs.Handles.{view}
 use Rattle.reclaim_api.specs.Frames.{is_as, had, LeavesRecords}
+use Rattle.reclaim_api.proofs.Kept.{Stays}
+use Rattle.record_pieces.specs.Spares.{KeepsSpares}
 use Rattle.record_pieces.specs.Events.{KeepsStock}
 use Rattle.manager.specs.Callers.{HasChains}
 use Rattle.manager.proofs.Empty.{none_in}
 use Rattle.manager.proofs.ChainCounts.{free_is, spare_is}
+use Rattle.manager.proofs.Stay.{mine_stays}
+
+-- a record that stays spare in the view is spare in the book
+pub stays_kept : (v w : View) → Stays Spare v w → KeepsSpares v.own w.own
+stays_kept v w stays r h = record { share = h.share; known = stays r.index h.share h.known h.spare; spare = h.spare; generation = h.generation }
 
 -- after a call that leaves each record
 pub stock_left : (v w : View) → LeavesRecords v w → KeepsStock v.own w.own
-stock_left v w rest = record { spare = ap (λ m. count_by (is_as is_spare) m) rest.mine; drawn = ap (λ (m : Moves). m.drawn) rest.moves; births = ap (λ (m : Moves). m.births) rest.moves }
+stock_left v w rest = record {
+  spare = ap (λ m. count_by (is_as is_spare) m) rest.mine;
+  kept = stays_kept v w (mine_stays Spare v w rest.mine);
+  drawn = ap (λ (m : Moves). m.drawn) rest.moves;
+  reused = ap (λ (m : Moves). m.reused) rest.moves;
+  births = ap (λ (m : Moves). m.births) rest.moves;
+}
 
 module _ {S R L : Type 0} (is_local : L → Bool → View → View → Type 0) where
   module _ (p : Pass S R) (l : L) (free spare : Chain) (h : HasChains is_local p l free spare) where

@@ -13,11 +13,12 @@ use Rattle.record_rule.specs.Makes.{Makes}
 use Rattle.record_rule.proofs.Makes.{makes_one}
 use Rattle.record_rule.proofs.HandingOut.{known_within}
 use Rattle.record_pieces.specs.Hands.{is_in_hand, in_hand}
+use Rattle.record_pieces.specs.Spares.{IsSpareIn, KeepsSparesBut}
 use Rattle.record_pieces.proofs.Hands.{hand_more}
 use Rattle.reclaim_api.specs.Chained.{IsAs, IsChainOf}
 use Rattle.reclaim_api.specs.Frames.{away_as}
 use Rattle.reclaim_api.proofs.Kept.{chain_stays}
-use Rattle.manager.proofs.OneShare.{AwayStays, others_stay, limbo_stays}
+use Rattle.manager.proofs.OneShare.{AwayStays, there, others_stay, limbo_stays}
 use Rattle.manager.specs.Callers.{KeepsOwn}
 use Rattle.manager.proofs.MoveCounts.{AreSameMoves}
 use Rattle.manager.proofs.Owns.{owns_stay}
@@ -63,6 +64,13 @@ module _ (v w : View) (chain after : Chain) (r : RefParts) (list : IsChainOf Spa
 
     records : w.setup.records ≡ v.setup.records
     records = ap (λ (x : View). x.setup.records) taken_is
+
+    -- it was spare, and all others are still
+    pub taken_was : IsSpareIn v.own r
+    taken_was = record { share = was; known = spare_as.owns.known; spare = spare_as.standing_is; generation = spare_as.owns.generation }
+
+    pub taken_kept : KeepsSparesBut r.index v.own w.own
+    taken_kept q ne h = record { share = h.share; known = there v w r.index was is spare_as.owns.known taken_mine q.index ne ∙ h.known; spare = h.spare; generation = h.generation }
 
     -- of nothing but this record another thing is known
     pub taken_makes : Makes v w (field_load v r.index 1 n ∷ [])

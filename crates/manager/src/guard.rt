@@ -15,6 +15,7 @@ ghost use Rattle.record_table.specs.Nodes.{origin, origin_held, HoldsNode, Holds
 ghost use Rattle.reclaim_api.specs.Guarding.{Enters, Leaves};
 ghost use Rattle.reclaim_api.specs.Frames.{LeavesRest, LeavesRecords};
 ghost use Rattle.reclaim_api.specs.Holds.{IsElsewhere, HasReached, KeepsElse, KeepsHeld, KeepsButLink};
+ghost use Rattle.record_pieces.specs.Spares.{IsSpareIn};
 ghost use Rattle.record_pieces.specs.Events.{Does, begun, hopped, keyed, looked, exchanged, published, unlinked, stored_own, took, refused, gave_back, retired, placed, ended};
 ghost use Rattle.record_rule.specs.Placing.{placed_view};
 ghost use Rattle.manager.specs.Callers.{IsWorking, IsResting, AnswersNone, KeepsOwn, KeepsOwnBut};
@@ -58,8 +59,8 @@ impl<'a, S: Shape, R: Scheme, A: Allocator, P: Pool> Guard<'a, S, R, A, P> {
     /// Tries to hold, at `place`, what the link of `from` leads to. `place` is below the reclaimer's
     /// `PLACES` and isn't the place of `from`, and `field` is 3, the word that holds a set's link; the set
     /// says which links may be followed. `Held`: the record is held at that place from now on, until
-    /// `finish` or the next use of the place. At every other answer nothing may be used at that place until
-    /// it holds again. What other places hold stays.
+    /// `finish` or the next use of the place. At every other answer that place holds nothing until it holds
+    /// again. What other places hold stays.
     pub fn hold(&mut self, place: u32, from: Node, field: u8) -> Holding
         requires at_work { IsAtWork self.old }
         requires place { place < R.PLACES }
@@ -108,6 +109,7 @@ impl<'a, S: Shape, R: Scheme, A: Allocator, P: Pool> Guard<'a, S, R, A, P> {
         ensures keeps { KeepsHeld self.old.caller.now.pass self.new.caller.now.pass }
         ensures answers { AnswersNone (view self.old.caller.now.pass) (view self.new.caller.now.pass) }
         ensures owns { KeepsOwnBut own.index (view self.old.caller.now.pass) (view self.new.caller.now.pass) }
+        ensures spare { IsSpareIn (view self.new.caller.now.pass).own own }
         ensures made { (steps : List Step) × Makes (view self.old.caller.now.pass) (view self.new.caller.now.pass) steps }
         ensures did { Did self.old (gave_back own) self.new }
     {

@@ -14,7 +14,7 @@ ghost use Rattle.reclaim_api.specs.Holds.{KeepsHeld};
 ghost use Rattle.record_pieces.specs.Hands.{in_hand};
 ghost use Rattle.record_pieces.specs.OwnSteps.{OneStep, own_load, own_store};
 ghost use Rattle.record_pieces.specs.Giving.{GivesChains};
-ghost use Rattle.record_pieces.specs.Events.{HandsOut, KeepsStock, CountsBirth, WasFree, Gets, FindsNone, Does, took, refused};
+ghost use Rattle.record_pieces.specs.Events.{HandsOut, KeepsStock, CountsBirth, CountsReuse, CountsDraw, SetsAside, TakesSpare, WasFree, Gets, FindsNone, Does, took, refused};
 ghost use Rattle.pool.specs.Calls.{Takes};
 ghost use Rattle.pool.specs.declared.Taken.TheVariants.{Some as Took, None as FoundNone};
 ghost use Rattle.manager.specs.Manners.{gives_by, manner};
@@ -43,7 +43,8 @@ fn take_spare<S: Shape, R: Scheme>(table: &Table<S, R>, caller: &mut Caller<S, R
     ensures keeps { IfSome result (λ _. KeepsHeld caller.old.pass caller.new.pass) }
     ensures answers { IfSome result (λ _. AnswersNone (view caller.old.pass) (view caller.new.pass)) }
     ensures does { IfSome result (λ own. (d : Book) × (birth : ℕ) × (n : ℕ) × R.bears (setup_of table.now) (view caller.old.pass).own birth d × OneStep d (own_load d own 1 n) (view caller.new.pass).own) }
-    ensures stock { IfSome result (λ _. (had is_spare (view caller.old.pass).own ≡ had is_spare (view caller.new.pass).own + 1) × CountsBirth (view caller.old.pass).own (view caller.new.pass).own) }
+    ensures stock { IfSome result (λ own. TakesSpare (view caller.old.pass).own own (view caller.new.pass).own) }
+    ensures retired { IfSome result (λ _. (view caller.new.pass).own.moves.retired ≡ (view caller.old.pass).own.moves.retired) }
     ensures hand { IfSome result (λ _. in_hand (view caller.new.pass).own ≡ in_hand (view caller.old.pass).own + 1) }
 {
     let first = caller.spare.head?;
@@ -68,7 +69,7 @@ pub(crate) fn set_spare<S: Shape, R: Scheme>(
     ensures pass { IsSamePass caller.old.pass caller.new.pass }
     ensures owns { KeepsOwnBut own.index (view caller.old.pass) (view caller.new.pass) }
     ensures made { (found : ℕ) × (left : ℕ) × Makes (view caller.old.pass) (view caller.new.pass) (own_store (view caller.old.pass).own own 1 found left ∷ []) }
-    ensures stock { (had is_spare (view caller.new.pass).own ≡ had is_spare (view caller.old.pass).own + 1) × ((view caller.new.pass).own.moves.drawn ≡ (view caller.old.pass).own.moves.drawn) × ((view caller.new.pass).own.moves.births ≡ (view caller.old.pass).own.moves.births) }
+    ensures stock { SetsAside (view caller.old.pass).own own (view caller.new.pass).own }
     ensures hand { in_hand (view caller.new.pass).own + 1 ≡ in_hand (view caller.old.pass).own }
 {
     let r = table.set_aside(&mut caller.pass, own, caller.spare.head);
@@ -93,6 +94,7 @@ pub(crate) fn put_away<S: Shape, R: Scheme, P: Pool>(
     ensures answers { AnswersNone (view caller.old.pass) (view caller.new.pass) }
     ensures owns { KeepsOwn (view caller.old.pass) (view caller.new.pass) }
     ensures stock { KeepsStock (view caller.old.pass).own (view caller.new.pass).own }
+    ensures retired { (view caller.new.pass).own.moves.retired ≡ (view caller.old.pass).own.moves.retired + 1 }
     ensures does { (d : Book) × (f : Freed) × R.puts_away (setup_of table.now) (view caller.old.pass).own taken f d × GivesChains P.SHELVES (gives_by P.SHELVES P.busy (setup_of table.now)) f d (view caller.new.pass).own }
     ensures hand { in_hand (view caller.new.pass).own + 1 ≡ in_hand (view caller.old.pass).own }
 {
@@ -125,7 +127,7 @@ fn draw<S: Shape, R: Scheme, A: Allocator>(
     ensures made { (steps : List Step) × Makes (view caller.old.pass) (view caller.new.pass) steps }
     ensures drawn { MatchResult result (λ r. HasDrawn (view caller.new.pass) r) (λ _. Unit {0}) }
     ensures births { (view caller.new.pass).own.moves.births ≡ (view caller.old.pass).own.moves.births }
-    ensures moves { MatchResult result (λ _. (view caller.new.pass).own.moves.drawn ≡ (view caller.old.pass).own.moves.drawn + 1) (λ _. (view caller.new.pass).own.moves.drawn ≡ (view caller.old.pass).own.moves.drawn) }
+    ensures moves { MatchResult result (λ _. CountsDraw (view caller.old.pass).own (view caller.new.pass).own) (λ _. (view caller.new.pass).own.moves ≡ (view caller.old.pass).own.moves) }
     ensures does { MatchResult result (λ r. A.draws (view caller.old.pass) r (view caller.new.pass)) (λ none. A.refuses (view caller.old.pass) none.found (view caller.new.pass)) }
     ensures hand { MatchResult result (λ _. in_hand (view caller.new.pass).own ≡ in_hand (view caller.old.pass).own + 1) (λ _. in_hand (view caller.new.pass).own ≡ in_hand (view caller.old.pass).own) }
 {
@@ -146,7 +148,7 @@ fn take_free<S: Shape, R: Scheme>(table: &Table<S, R>, caller: &mut Caller<S, R>
     ensures none { IfNone result ((caller.new ≡ caller.old) × (caller.old.free.head ≡ None)) }
     ensures drawn { IfSome result (λ r. HasDrawn (view caller.new.pass) r) }
     ensures births { (view caller.new.pass).own.moves.births ≡ (view caller.old.pass).own.moves.births }
-    ensures again { IfSome result (λ r. WasFree (view caller.old.pass).own r × ((view caller.new.pass).own.moves.drawn ≡ (view caller.old.pass).own.moves.drawn)) }
+    ensures again { IfSome result (λ r. WasFree (view caller.old.pass).own r × CountsReuse (view caller.old.pass).own (view caller.new.pass).own) }
     ensures made { IfSome result (λ r. (n : ℕ) × Makes (view caller.old.pass) (view caller.new.pass) (own_load (view caller.old.pass).own r 1 n ∷ [])) }
     ensures hand { IfSome result (λ _. in_hand (view caller.new.pass).own ≡ in_hand (view caller.old.pass).own + 1) }
 {
@@ -195,6 +197,7 @@ fn hand_out<S: Shape, R: Scheme>(table: &Table<S, R>, caller: &mut Caller<S, R>,
     ensures answers { AnswersNone (view caller.old.pass) (view caller.new.pass) }
     ensures owns { KeepsOwn (view caller.old.pass) (view caller.new.pass) }
     ensures stock { (had is_spare (view caller.new.pass).own ≡ had is_spare (view caller.old.pass).own) × CountsBirth (view caller.old.pass).own (view caller.new.pass).own }
+    ensures retired { (view caller.new.pass).own.moves.retired ≡ (view caller.old.pass).own.moves.retired }
     ensures own { IsOwnOf (view caller.new.pass) result }
     ensures record { result ≡ r }
     ensures does { (d : Book) × (birth : ℕ) × R.bears (setup_of table.now) (view caller.old.pass).own birth d × HandsOut r birth d (view caller.new.pass).own }

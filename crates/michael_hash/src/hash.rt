@@ -11,6 +11,7 @@ ghost use Rattle.manager.specs.Callers.{IsResting};
 ghost use Rattle.manager.specs.Manners.{manner};
 ghost use Rattle.manager.specs.Made.{passes_of};
 ghost use Rattle.set_calls.specs.Answers.{InsertTells, RemoveTells, SearchTells};
+ghost use Rattle.set_calls.specs.Spares.{GivesBack};
 ghost use Rattle.michael_list.specs.Pieces.{Inserts, Removes, Searches};
 ghost use Rattle.michael_list.specs.Knowing.{IsHome};
 ghost use Rattle.set_api.specs.Callers.{AreFreshCallers};
@@ -91,6 +92,7 @@ impl<R: Scheme, A: Allocator, P: Pool> MichaelHash<R, A, P> {
         ensures same { IsSameCaller caller.old.pass caller.new.pass }
         ensures tells { InsertTells key result (view caller.old.pass) (view caller.new.pass) }
         ensures did { (es : List Event) × Inserts (bucket_of (setup_of self.now.lists.manager.table) key) key budget result es
+            × GivesBack result es (view caller.old.pass).own (view caller.new.pass).own
             × Trail (manner R.enters R.leaves R.bears R.reaches R.puts_away A.draws A.refuses P.SHELVES P.busy) (setup_of self.now.lists.manager.table) (begun ∷ es ++ ended ∷ []) (view caller.old.pass).own (view caller.new.pass).own }
     {
         self.lists.insert(caller, self.bucket(key), key, budget)

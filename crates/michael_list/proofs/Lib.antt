@@ -10,3 +10,4 @@ mod Inserted
 mod Marking
 pub mod Stock
 pub mod Hands
+pub mod Spares

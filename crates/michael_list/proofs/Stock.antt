@@ -43,7 +43,7 @@ walks_keep {key} (goes_on {from = from} {es = es} {fs = fs} walk hop rises) = bo
 walks_keep {key} (stays {from = from} {es = es} {fs = fs} walk hop) = both_keep es fs (walks_keep walk) (hops_keep key from _ _ fs hop)
 walks_keep {key} (restarts {from = from} {es = es} {fs = fs} walk hop) = both_keep es fs (walks_keep walk) (hops_keep key from _ _ fs hop)
 
-finds_keep : {key root hops : ℕ} {spot : Option Spot} {shown : Option ℕ} {es : List Event} → Finds key root hops spot shown es → AllKeep es
+pub finds_keep : {key root hops : ℕ} {spot : Option Spot} {shown : Option ℕ} {es : List Event} → Finds key root hops spot shown es → AllKeep es
 finds_keep {key} (found {from = from} {es = es} {fs = fs} walk hop) = both_keep es fs (walks_keep walk) (hops_keep key from _ _ fs hop)
 finds_keep (needs_more walk) = walks_keep walk
 
@@ -134,12 +134,12 @@ taken_then (Some own) b c d h k = took_then h k
 
 module _ (m : Manner) (k : Setup) where
   gets_drew : {b c : Book} {r : RefParts} → Gets m k b r c → c.moves.drawn ≤ b.moves.drawn + 1
-  gets_drew (from_free n c was one same) = omega (arith, same)
-  gets_drew (from_pool d n c none came was one same) = omega (arith, same)
-  gets_drew (from_draw d c none came drew more) = omega (arith, more)
+  gets_drew (from_free n c was one counts) = omega (arith, counts.drawn)
+  gets_drew (from_pool d n c none came was one counts) = omega (arith, counts.drawn)
+  gets_drew (from_draw d c none came drew counts) = omega (arith, counts.drawn)
 
   takes_one : (b c : Book) (r : RefParts) → Takes m k b r c → TookOne b c
-  takes_one b c r (from_spare d birth n bears one fewer counts) = record { took = inl (fewer, counts.drawn) }
+  takes_one b c r (from_spare d birth n bears one taken) = record { took = inl (taken.spare, taken.counts.drawn) }
   takes_one b c r (handed d e birth none gets same bears hands counts left) = record { took = inr (none, left, omega (arith, gets_drew gets, counts.drawn)) }
 
   -- the try has a record, got by it or by an earlier one
@@ -164,7 +164,7 @@ module _ (m : Manner) (k : Setup) where
   -- a record that is left over goes back
   back_gives : (hand : Option RefParts) (b c d : Book) → HasTaken hand b c → Trail m k (back hand) c d → GaveBack b d
   back_gives None b c d h t = kept_gave (subst (KeepsStock b) t h)
-  back_gives (Some own) b c d h t = subst (GaveBack b) t.2 (took_gave h t.1.acts.1 t.1.acts.2)
+  back_gives (Some own) b c d h t = subst (GaveBack b) t.2 (took_gave h t.1.acts.1.spare t.1.acts.1.drawn)
 
   -- what an insertion leaves of the stock, by its answer
   abbrev pub Leaves : InsertAnswer → Book → Book → Type 0

@@ -19,6 +19,7 @@ ghost use Rattle.manager.specs.Guards.{IsAtWork};
 ghost use Rattle.manager.specs.Manners.{gives_by, manner};
 ghost use Rattle.manager.specs.Made.{passes_of, AreAddedUp};
 ghost use Rattle.set_calls.specs.Answers.{InsertTells, RemoveTells, SearchTells};
+ghost use Rattle.set_calls.specs.Spares.{GivesBack};
 ghost use Rattle.michael_list.specs.Pieces.{Inserts, Removes, Searches};
 ghost use Rattle.michael_list.specs.Knowing.{IsHome};
 
@@ -86,6 +87,7 @@ impl<R: Scheme, A: Allocator, P: Pool> MichaelList<R, A, P> {
         ensures same { IsSameCaller caller.old.pass caller.new.pass }
         ensures tells { InsertTells key result (view caller.old.pass) (view caller.new.pass) }
         ensures did { (es : List Event) × Inserts root key budget result es
+            × GivesBack result es (view caller.old.pass).own (view caller.new.pass).own
             × Trail (manner R.enters R.leaves R.bears R.reaches R.puts_away A.draws A.refuses P.SHELVES P.busy) (setup_of self.now.manager.table) (begun ∷ es ++ ended ∷ []) (view caller.old.pass).own (view caller.new.pass).own }
     {
         let mut guard = self.manager.begin(caller);

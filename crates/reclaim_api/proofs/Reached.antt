@@ -1,6 +1,8 @@
 -- What a caller holds and knows once it loaded a link and holds, by that load alone, what the link leads to.
-use Rattle.std.proofs.Common.{◌≡◌, ◌≢◌, ℕ, ◌+◌, ◌<◌, ◌≤◌, List, length, length-append, set, get_or-set_same, get_or-set_other, Bool, true, false, not, nat_lt, cond, eqb, sym, ap, ◌∙◌, subst, refl, arith, Some, None}
+use Rattle.std.proofs.Common.{◌≡◌, ◌≢◌, ℕ, bit_and, ◌+◌, ◌<◌, ◌≤◌, List, length, length-append, set, get_or-set_same, get_or-set_other, Bool, true, false, not, nat_lt, cond, eqb, sym, ap, ◌∙◌, subst, refl, arith, Option, Some, None}
+use Rattle.std.specs.Prelude.{◌%◌}
 use Rattle.std.proofs.lemmas.Bool.{ltb-true}
+use Rattle.std.proofs.lemmas.Nat.{and_mask}
 use Rattle.atomic_table.proofs.Lists.{set_here, set_else}
 use Rattle.record_memory.specs.declared.books.View.{View}
 use Rattle.record_memory.specs.declared.books.Guard.{Guard}
@@ -8,15 +10,16 @@ use Rattle.record_memory.specs.declared.books.Note.{Note}
 use Rattle.set_model.specs.declared.calls.Update.{Update}
 use Rattle.row_words.specs.Refs.{RefParts, LinkParts}
 use Rattle.row_words.specs.Packing.{link_in}
-use Rattle.record_rule.specs.Facts.{At, mark_bit, Moment, ShapeFacts, CoverFacts}
+use Rattle.record_rule.specs.Facts.{At, mark_bit, Moment, Reach, ShapeFacts, CoverFacts}
 use Rattle.record_rule.specs.Guards.{started_if, holding}
+use Rattle.record_rule.specs.Laws.{HasReached}
 use Rattle.record_rule.specs.Opening.{no_note}
 use Rattle.record_rule.specs.Links.{Origin, target_of, note_in, note_of, IsFound, ReachedLink}
 use Rattle.record_rule.proofs.Rebuilt.{starts_itself}
 use Rattle.record_table.specs.declared.passes.Pass.{Pass}
 use Rattle.record_table.specs.Handles.{view, since}
 use Rattle.record_table.specs.Nodes.{HasStarted, HoldsThere, is_first, reach_at}
-use Rattle.reclaim_api.specs.Holds.{HasSeen, KeepsElse}
+use Rattle.reclaim_api.specs.Holds.{HasSeen, HoldsNothing, KeepsElse}
 use Rattle.reclaim_api.proofs.Keeping.{GoesOnAt, keeps_by}
 
 -- a guard that started before holds no more updates than were seen
@@ -34,6 +37,25 @@ started_later p later m = by (is_first p) refl
     by : (b : Bool) → is_first p ≡ b → length (since p).own.steps < (started_if b m (view p).own.guard (length (view p).own.steps + 1)).start_step
     by true e = omega (arith, later)
     by false e = ltb-true (length (since p).own.steps) (view p).own.guard.start_step (not_false (nat_lt (length (since p).own.steps) (view p).own.guard.start_step) e)
+
+-- the mark is the lowest of the flags
+pub odd : (f : ℕ) → (bit_and f 1 ≡ 0 → ⊥) → f % 2 ≡ 1
+odd f set = let some : f % 2 ≢ 0 = (λ e. set (and_mask f 1 ∙ e)) in omega arith
+
+-- a link with a mark, or one that leads nowhere, lets nothing be held
+pub marked_none : (n : ℕ) → mark_bit (link_in n) ≡ 1 → target_of (link_in n) ≡ None
+marked_none n marked = ap (λ (b : ℕ). cond (eqb b 1) None (link_in n).target) marked
+
+pub missing_none : (n : ℕ) → mark_bit (link_in n) ≡ 0 → (link_in n).target ≡ None → target_of (link_in n) ≡ None
+missing_none n clear to = ap (λ (b : ℕ). cond (eqb b 1) None (link_in n).target) clear ∙ to
+
+-- so that the place holds nothing
+pub holds_nothing : (s : ShapeFacts) (c : CoverFacts) {S R : Type 0} (q : Pass S R) (v : View) (o : Origin) (r : Reach) (n : ℕ) → ReachedLink s c v o 3 r n (view q) → ((m : Moment) (t : Option RefParts) → HasReached c m v.own.guard r t)
+    → target_of (link_in n) ≡ None → HoldsNothing r.place q
+holds_nothing s c q v o r n told reached none x at =
+    let m : Moment = record { epoch = told.epoch; taken_out = length (view q).seen_taken_out; updates = length (view q).seen_updates } in
+    let led : target_of (link_in n) ≡ Some x = (reached m (target_of (link_in n))).only x (subst (λ (g : Guard). At g.holds r.place (Some x)) (ap (λ (w : View). w.own.guard) told.view) at) in
+    let both : None ≡ Some x = sym none ∙ led in cc
 
 -- `began` is the caller's guard, started with this load or before
 module _ (s : ShapeFacts) (c : CoverFacts) {S R : Type 0} (p q : Pass S R) (o : Origin) (place n : ℕ) (told : ReachedLink s c (view p) o 3 (reach_at p place) n (view q)) (same : since q ≡ since p)

@@ -68,9 +68,13 @@ module _ {S R : Type 0} where
     pub started : HasStarted q
     pub since_start : (view q).own.guard.start_updates ≤ length updates
 
-  -- what an answer shows
+  -- it holds nothing at this place
+  abbrev pub HoldsNothing : ℕ → Pass S R → Type 0
+  HoldsNothing place q = (r : RefParts) → ¬ At (view q).own.guard.holds place (Some r)
+
+  -- what an answer shows; the place holds nothing but what was answered to be held there
   abbrev pub HasReached : ShapeFacts → ℕ → Origin → Pass S R → Holding → Pass S R → Type 0
-  HasReached s place o p Null q = (link : LinkParts) × (mark_bit link ≡ 0) × (link.target ≡ None) × HasSeen s place o p q link
+  HasReached s place o p Null q = (link : LinkParts) × (mark_bit link ≡ 0) × (link.target ≡ None) × HasSeen s place o p q link × HoldsNothing place q
   HasReached s place o p (Held h) q = HoldsThere q h × (h.place ≡ place) × ((link : LinkParts) × (mark_bit link ≡ 0) × (link.target ≡ Some h.target) × HasSeen s place o p q link)
-  HasReached s place o p (Marked link) q = (mark_bit link ≡ 1) × HasSeen s place o p q link
-  HasReached s place o p (Moved n) q = Unit {0}
+  HasReached s place o p (Marked link) q = (mark_bit link ≡ 1) × HasSeen s place o p q link × HoldsNothing place q
+  HasReached s place o p (Moved n) q = HoldsNothing place q

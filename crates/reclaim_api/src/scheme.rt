@@ -112,7 +112,7 @@ pub trait Scheme: Cover {
 
     /// Tries to hold, at `place`, what the link of `from` leads to. `place` is below `PLACES` and isn't
     /// the place of `from`, and `field` is 3, the word that holds a set's link. Where the answer isn't
-    /// `Held`, the caller may use nothing at the place until it holds there again.
+    /// `Held`, the place holds nothing until it holds there again.
     fn reach<S: Shape>(
         table: &Table<S, Self>,
         pass: &mut Pass<S, Self>,

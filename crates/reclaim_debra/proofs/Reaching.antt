@@ -9,11 +9,12 @@ use Rattle.record_rule.specs.Links.{Origin, target_of, ReachedLink}
 use Rattle.record_table.specs.declared.passes.Pass.{Pass}
 use Rattle.record_table.specs.Handles.{view, since}
 use Rattle.record_table.specs.Nodes.{HasStarted, HoldsThere, reach_at}
-use Rattle.reclaim_api.specs.Holds.{HasSeen, KeepsElse}
+use Rattle.reclaim_api.specs.Holds.{HasSeen, HoldsNothing, KeepsElse}
 use Rattle.reclaim_api.specs.Bags.{bag_count}
 use Rattle.reclaim_api.proofs.Reached.{started_before}
 use Rattle.reclaim_api.proofs.Reached as load
 use Rattle.debra_facts.specs.Debra.{debra}
+use Rattle.debra_facts.proofs.Lives.{reached_so}
 use Rattle.reclaim_debra.specs.declared.bags.Bags.{Bags}
 use Rattle.reclaim_debra.specs.LocalParts.{IsActive, IsGuarded, IsLocal}
 use Rattle.reclaim_debra.specs.Stamped.{bags_stay}
@@ -42,6 +43,10 @@ module _ (s : ShapeFacts) {S R : Type 0} (p q : Pass S R) (o : Origin) (place n 
     -- it is held there
     pub holds_there : (r : RefParts) → mark_bit (link_in n) ≡ 0 → (link_in n).target ≡ Some r → HoldsThere q (record { place = place; target = r })
     holds_there = load.holds_there s debra p q o place n told same (view p).own.guard guard_is started (started_before s debra p q o place n told) told.many small (λ h. refl)
+
+    -- or nothing is
+    pub nothing_there : target_of (link_in n) ≡ None → HoldsNothing place q
+    nothing_there = load.holds_nothing s debra q (view p) o (reach_at p place) n told (λ m t. reached_so m (view p).own.guard (reach_at p place) t)
 
     -- what is held and known elsewhere stays
     pub keeps_else : KeepsElse place p q

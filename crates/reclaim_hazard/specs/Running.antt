@@ -51,12 +51,12 @@ pub record Stops (from : Node) (field : ℕ) (b : Book) (h : Holding) (c : Book)
   pub steps : c.steps ≡ b.steps ++ link_load b from field found ∷ []
   pub answer : StopsWith (link_in found) h
 
--- what a second load that found `again` is answered with, where the first one found a link to the target
-abbrev pub ConfirmsWith : ℕ → RefParts → ℕ → ℕ → Holding → Type 0
-ConfirmsWith place target found again Null = ⊥
-ConfirmsWith place target found again (Held h) = (again ≡ found) × (h.place ≡ place) × (h.target ≡ target)
-ConfirmsWith place target found again (Marked m) = (again ≢ found) × (mark_bit (link_in again) ≡ 1) × (m ≡ link_in again)
-ConfirmsWith place target found again (Moved n) = (again ≢ found) × (mark_bit (link_in again) ≡ 0) × (n ≡ again)
+-- what a second load that found `again` is answered with, where the first one found a link to the target: held where it leads there still, without a mark
+abbrev pub ConfirmsWith : ℕ → RefParts → ℕ → Holding → Type 0
+ConfirmsWith place target again Null = ⊥
+ConfirmsWith place target again (Held h) = (mark_bit (link_in again) ≡ 0) × ((link_in again).target ≡ Some target) × (h.place ≡ place) × (h.target ≡ target)
+ConfirmsWith place target again (Marked m) = (mark_bit (link_in again) ≡ 1) × (m ≡ link_in again)
+ConfirmsWith place target again (Moved n) = (mark_bit (link_in again) ≡ 0) × ((link_in again).target ≢ Some target) × (n ≡ again)
 
 -- the target is named in the own word of the place, and the link is loaded again
 pub record Confirms (place : ℕ) (from : Node) (field : ℕ) (b : Book) (h : Holding) (c : Book) : Type 0 where
@@ -67,7 +67,7 @@ pub record Confirms (place : ℕ) (from : Node) (field : ℕ) (b : Book) (h : Ho
   pub named : ℕ
   pub again : ℕ
   pub steps : c.steps ≡ b.steps ++ link_load b from field found ∷ word_store b place (packed_ref (Some target)) named ∷ link_load b from field again ∷ []
-  pub answer : ConfirmsWith place target found again h
+  pub answer : ConfirmsWith place target again h
 
 -- A try to hold
 pub data Reaches (setup : Setup) (place : ℕ) (from : Node) (field : ℕ) (b : Book) (h : Holding) (c : Book) : Type 0 where

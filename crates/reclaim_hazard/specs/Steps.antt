@@ -26,12 +26,12 @@ pub record HasLoadedAgain (s : ShapeFacts) (v : View) (o : Origin) (place : ℕ)
   pub again_is : again ≡ link_in word
   pub told : ReachedLink s hazard (stored_own v place (packed_ref (Some target)) named) o 3 (record { place = place; first = false; step = length v.own.steps + 2 }) word w
 
--- how two links to load and what to hold are answered: held where they are one, and else by the second, which is a word under this generation
-abbrev pub AnswersBy : ℕ → LinkParts → LinkParts → HeldThere → Holding → Type 0
-AnswersBy own first again held Null = ⊥
-AnswersBy own first again held (Held h) = (again ≡ first) × (h ≡ held)
-AnswersBy own first again held (Marked m) = (again ≢ first) × (mark_bit again ≡ 1) × (m ≡ again)
-AnswersBy own first again held (Moved n) = (again ≢ first) × (mark_bit again ≡ 0) × (n ≡ packed_link own again)
+-- how a link that was loaded again is answered, and what to hold: held where it leads there without a mark, and else by the link, which is a word under this generation
+abbrev pub AnswersBy : ℕ → LinkParts → HeldThere → Holding → Type 0
+AnswersBy own again held Null = ⊥
+AnswersBy own again held (Held h) = (mark_bit again ≡ 0) × (again.target ≡ Some held.target) × (h ≡ held)
+AnswersBy own again held (Marked m) = (mark_bit again ≡ 1) × (m ≡ again)
+AnswersBy own again held (Moved n) = (mark_bit again ≡ 0) × (again.target ≢ Some held.target) × (n ≡ packed_link own again)
 
 -- the first words of a scan were loaded, and not all of them
 abbrev pub HasLoadedWords : View → List ℕ → View → Type 0

@@ -1,4 +1,4 @@
-// The parts of a try to hold: a value is stored in an own word, the link is loaded again, and both links are answered.
+// The parts of a try to hold: a value is stored in an own word, the link is loaded again, and what it is then is answered.
 ghost use Rattle.std.specs.Prelude.{◌≡◌, ◌<◌, ◌^◌, ℕ};
 ghost use Rattle.record_rule.specs.Links.{near_of, generation_at};
 ghost use Rattle.record_table.specs.Handles.{setup_of, view, IsPassOf, IsSamePass};
@@ -89,15 +89,15 @@ pub(crate) fn same_node(node: &Node) -> Node
     }
 }
 
-// The answer to two links that were loaded from a word under the generation `own`, where the first leads to `held`.
-pub(crate) fn answer(own: u32, first: Link, again: Link, held: Held) -> Holding
+// The answer to a link that was loaded again from a word under the generation `own`, and led to `held` before.
+pub(crate) fn answer(own: u32, again: Link, held: Held) -> Holding
     requires own { own < 2 ^ 20 }
-    ensures { AnswersBy own first again held result }
+    ensures { AnswersBy own again held result }
 {
-    if again == first {
-        Holding::Held(held)
-    } else if again.flags & MARK != 0 {
+    if again.flags & MARK != 0 {
         Holding::Marked(again)
+    } else if again.target == Some(held.target) {
+        Holding::Held(held)
     } else {
         let found = pack_link(own, again);
         Holding::Moved { found }

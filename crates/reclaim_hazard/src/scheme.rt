@@ -83,7 +83,7 @@ impl Scheme for Hazard {
             return Holding::Null;
         };
         let again = load_again(table, pass, local, place, from, field, target);
-        answer(own, link, again, Held { place, target })
+        answer(own, again, Held { place, target })
     }
 
     fn put_away<S: Shape>(

@@ -1,6 +1,6 @@
 -- What is held once a link was loaded and then the epoch, and what both loads show.
 use Rattle.std.proofs.Common.{◌≡◌, ◌≢◌, ℕ, ◌<◌, ◌≤◌, List, [], ◌∷◌, length, length-set, set, get_or-set_same, get_or-set_other, Bool, cond, eqb, Some, None, sym, ap, ◌∙◌, subst, refl, arith}
-use Rattle.std.proofs.lemmas.Bool.{eq-eqb}
+use Rattle.std.proofs.lemmas.Bool.{eq-eqb, ne_eqb}
 use Rattle.atomic_table.proofs.Lists.{set_here}
 use Rattle.set_model.specs.declared.calls.Update.{Update}
 use Rattle.record_memory.specs.declared.books.View.{View}
@@ -19,19 +19,14 @@ use Rattle.record_table.specs.Handles.{view, since}
 use Rattle.record_table.specs.Nodes.{HasStarted, HoldsThere, reach_at}
 use Rattle.guard_facts.specs.Announcing.{word_of}
 use Rattle.ibr_facts.specs.Keeping.{ibr, ibr_reached, ibr_read}
-use Rattle.reclaim_api.specs.Holds.{HasSeen, KeepsElse}
+use Rattle.ibr_facts.proofs.Reaching.{reached_so}
+use Rattle.reclaim_api.specs.Holds.{HasSeen, HoldsNothing, KeepsElse}
 use Rattle.reclaim_api.proofs.Keeping.{keeps_by}
 use Rattle.reclaim_api.proofs.Reached.{started_before}
 use Rattle.reclaim_ibr.specs.Steps.{epoch_loaded, HasLoadedEpoch}
 use Rattle.reclaim_ibr.proofs.Confirmed.{confirmed_rest, reached_else, read_else}
 
--- what a link lets hold: nothing where it has a mark or leads nowhere
-pub marked_none : (n : ℕ) → mark_bit (link_in n) ≡ 1 → target_of (link_in n) ≡ None
-marked_none n marked = ap (λ (b : ℕ). cond (eqb b 1) None (link_in n).target) marked
-
-pub missing_none : (n : ℕ) → mark_bit (link_in n) ≡ 0 → (link_in n).target ≡ None → target_of (link_in n) ≡ None
-missing_none n clear to = ap (λ (b : ℕ). cond (eqb b 1) None (link_in n).target) clear ∙ to
-
+-- what a link without a mark lets hold
 pub leads_to : (n : ℕ) (target : RefParts) → mark_bit (link_in n) ≡ 0 → (link_in n).target ≡ Some target → target_of (link_in n) ≡ Some target
 leads_to n target clear to = ap (λ (b : ℕ). cond (eqb b 1) None (link_in n).target) clear ∙ to
 
@@ -93,6 +88,11 @@ module _ (s : ShapeFacts) {S R : Type 0} (p then : Pass S R) (o : Origin) (place
 
     pub guard_is : (view q).own.guard ≡ ibr_read (Some (place, target)) waiting e h.taken_out
     guard_is = ap (λ (v : View). v.own.guard) h.view ∙ ap (λ (g : Guard). ibr_read g.pending g e h.taken_out) (reached_is ∙ ap (ibr_reached (view p).own.guard place) (leads_to n target clear to))
+
+    -- where the epoch isn't the upper end, the place holds nothing
+    pub holds_none : e ≢ word_of (view p).own.guard 1 → HoldsNothing place q
+    holds_none other r at = let reached = reached_so (record { epoch = 0; taken_out = 0; updates = 0 }) (view p).own.guard (reach_at p place) (Some target) in let none = reached.waits place target refl in
+        none.2 r (subst (λ (g : Guard). At g.holds place (Some r)) (guard_is ∙ ap (λ (b : Bool). record (cond b (holding waiting place (Some target)) waiting) { readings = e ∷ []; reading_taken_out = h.taken_out }) (ne_eqb e (word_of (view p).own.guard 1) other)) at)
 
     pub rest_is : (view q).own.guard ≡ record waiting { holds = (view q).own.guard.holds; pending = (view q).own.guard.pending; readings = e ∷ []; reading_taken_out = h.taken_out }
     rest_is = guard_is ∙ ap (λ (g : Guard). record g { readings = e ∷ []; reading_taken_out = h.taken_out }) (confirmed_rest (Some (place, target)) waiting e)

@@ -1,5 +1,5 @@
 -- What a caller without reclamation holds once it loaded a link: its guard started with its first load or before.
-use Rattle.std.proofs.Common.{◌≡◌, ℕ, ◌+◌, ◌<◌, ◌≤◌, length, Bool, true, false, ap, ◌∙◌, arith, Some}
+use Rattle.std.proofs.Common.{◌≡◌, ℕ, ◌+◌, ◌<◌, ◌≤◌, length, Bool, true, false, ap, ◌∙◌, arith, Some, None}
 use Rattle.record_memory.specs.declared.books.View.{View}
 use Rattle.record_memory.specs.declared.books.Guard.{Guard}
 use Rattle.row_words.specs.Refs.{RefParts, LinkParts}
@@ -11,11 +11,11 @@ use Rattle.record_table.specs.declared.passes.Pass.{Pass}
 use Rattle.record_table.specs.Handles.{view, since}
 use Rattle.record_table.specs.Nodes.{HasStarted, HoldsThere, is_first, reach_at}
 use Rattle.record_table.proofs.Started.{later_load}
-use Rattle.reclaim_api.specs.Holds.{HasSeen, KeepsElse}
+use Rattle.reclaim_api.specs.Holds.{HasSeen, HoldsNothing, KeepsElse}
 use Rattle.reclaim_api.proofs.Reached.{started_before, started_later}
 use Rattle.reclaim_api.proofs.Reached as load
 use Rattle.cover_facts.specs.Keeping.{none}
-use Rattle.cover_facts.proofs.KeepingLaws.{many_then}
+use Rattle.cover_facts.proofs.KeepingLaws.{many_then, none_laws}
 
 module _ (s : ShapeFacts) {S R : Type 0} (p q : Pass S R) (o : Origin) (place n : ℕ) (told : ReachedLink s none (view p) o 3 (reach_at p place) n (view q)) (same : since q ≡ since p)
     (later : length (since p).own.steps ≤ length (view p).own.steps) (small : place < 8) where
@@ -49,6 +49,10 @@ module _ (s : ShapeFacts) {S R : Type 0} (p q : Pass S R) (o : Origin) (place n 
   -- it is held there
   pub holds_there : (r : RefParts) → mark_bit (link_in n) ≡ 0 → (link_in n).target ≡ Some r → HoldsThere q (record { place = place; target = r })
   holds_there = load.holds_there s none p q o place n told same began guard_is (started_later p later time) (start_seen (is_first p)) many small goes
+
+  -- or nothing is
+  pub nothing_there : target_of (link_in n) ≡ None → HoldsNothing place q
+  nothing_there = load.holds_nothing s none q (view p) o (reach_at p place) n told (λ m t. none_laws.reached m (view p).own.guard (reach_at p place) t small)
 
   -- what is held and known elsewhere stays
   pub keeps_else : KeepsElse place p q

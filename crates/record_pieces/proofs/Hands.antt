@@ -18,7 +18,7 @@ use Rattle.record_rule.proofs.Lists.{counts_same, counts_more, counts_less}
 use Rattle.reclaim_api.specs.Frames.{rest_as, in_rest, is_as, LeavesRest, LeavesRestBut, LeavesRecords}
 use Rattle.record_pieces.specs.Manners.{Manner}
 use Rattle.record_pieces.specs.Hands.{is_in_hand, in_hand}
-use Rattle.record_pieces.specs.Events.{Event, gained, dropped, Acts, Does}
+use Rattle.record_pieces.specs.Events.{Event, gained, dropped, retirements, Acts, Does}
 use Rattle.record_pieces.specs.Trails.{Trail}
 
 -- no entry stands past the end
@@ -90,9 +90,9 @@ hand_rest_but v w r share taken rest = ap (λ (n : ℕ). n + 1) (hand_like witho
         by (yes e) = subst (λ (k : ℕ). in_rest (get_or w.own.mine k None) ≡ in_rest (get_or without k None)) (sym e) (rest.gone ∙ sym (ap in_rest (get_or-set_same v.own.mine (r.index - 1) None None within)))
         by (no ne) = rest.rest j ne ∙ sym (ap in_rest (get_or-set_other v.own.mine (r.index - 1) j None None ne))
 
--- an event that leaves as many in hand
-pub does_still : {m : Manner} {k : Setup} {e : Event} {b c : Book} → gained e ≡ 0 → dropped e ≡ 0 → in_hand c ≡ in_hand b → Acts m k e b c → Does m k e b c
-does_still more fewer same acts = record { acts = acts; hand = omega (arith, more, fewer, same) }
+-- an event that leaves as many in hand, and retires none
+pub does_still : {m : Manner} {k : Setup} {e : Event} {b c : Book} → gained e ≡ 0 → dropped e ≡ 0 → retirements e ≡ 0 → in_hand c ≡ in_hand b → c.moves.retired ≡ b.moves.retired → Acts m k e b c → Does m k e b c
+does_still more fewer none same still acts = record { acts = acts; hand = omega (arith, more, fewer, same); retires = omega (arith, none, still) }
 
 -- from so many records in hand these events lead to so many
 pub record Hands (n : ℕ) (es : List Event) (m : ℕ) : Type 0 where
@@ -113,3 +113,8 @@ hands_trail m k (e ∷ es) b c t = record { sums = omega (arith, t.1.hand, (hand
 -- a call whose events leave none leaves as many as there were
 pub hands_stay : (m : Manner) (k : Setup) (es : List Event) (b c : Book) → Hands 0 es 0 → Trail m k es b c → in_hand c ≡ in_hand b
 hands_stay m k es b c none t = omega (arith, none.sums, (hands_trail m k es b c t).sums)
+
+-- of events one after another as many records are retired as they say
+pub retires_trail : (m : Manner) (k : Setup) (es : List Event) (b c : Book) → Trail m k es b c → c.moves.retired ≡ b.moves.retired + sum_by retirements es
+retires_trail m k [] b c t = omega (arith, ap (λ (x : Book). x.moves.retired) t)
+retires_trail m k (e ∷ es) b c t = omega (arith, t.1.retires, retires_trail m k es t.0 c t.2, sum_by-cons retirements e es)

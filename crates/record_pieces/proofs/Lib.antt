@@ -1,3 +1,4 @@
 pub mod Hands
 pub mod Joins
 pub mod Stock
+pub mod Spares

@@ -49,10 +49,10 @@ both_keep [] fs first second = second
 both_keep (e ∷ es) fs first second = (first.0, both_keep es fs first.1 second)
 
 pub same_stock : (b : Book) → KeepsStock b b
-same_stock b = record { spare = refl; drawn = refl; births = refl }
+same_stock b = record { spare = refl; kept = λ r h. h; drawn = refl; reused = refl; births = refl }
 
 pub stock_then : {b c d : Book} → KeepsStock b c → KeepsStock c d → KeepsStock b d
-stock_then h k = record { spare = k.spare ∙ h.spare; drawn = k.drawn ∙ h.drawn; births = k.births ∙ h.births }
+stock_then h k = record { spare = k.spare ∙ h.spare; kept = λ r was. k.kept r (h.kept r was); drawn = k.drawn ∙ h.drawn; reused = k.reused ∙ h.reused; births = k.births ∙ h.births }
 
 -- each relation of a manner only adds steps to those that the caller made
 pub record OnlyAdds (m : Manner) (k : Setup) : Type 0 where
@@ -126,12 +126,12 @@ module _ (m : Manner) (k : Setup) where
 
   module _ (only : OnlyAdds m k) where
     gets_add : (b : Book) (r : RefParts) (c : Book) → Gets m k b r c → AddsSteps b c
-    gets_add b r _ (from_free n c was one same) = one_adds b c _ one
-    gets_add b r _ (from_pool d n c none came was one same) = adds_both b d c (only.takes b d true came) (one_adds d c _ one)
-    gets_add b r _ (from_draw d c none came drew more) = adds_both b d c (only.takes b d false came) (only.draws d c r drew)
+    gets_add b r _ (from_free n c was one counts) = one_adds b c _ one
+    gets_add b r _ (from_pool d n c none came was one counts) = adds_both b d c (only.takes b d true came) (one_adds d c _ one)
+    gets_add b r _ (from_draw d c none came drew counts) = adds_both b d c (only.takes b d false came) (only.draws d c r drew)
 
     takes_add : (b : Book) (r : RefParts) (c : Book) → Takes m k b r c → AddsSteps b c
-    takes_add b r c (from_spare d birth n bears one fewer counts) = adds_both b d c (only.bears b d birth bears) (one_adds d c _ one)
+    takes_add b r c (from_spare d birth n bears one taken) = adds_both b d c (only.bears b d birth bears) (one_adds d c _ one)
     takes_add b r c (handed d e birth none gets same bears hands counts left) = adds_both b d c (gets_add b r d gets) (adds_both d e c (only.bears d e birth bears) (hands_add r birth e c hands))
 
     cut_adds : (b : Book) (last : RefParts) (c : Book) → CutsOff b last c → AddsSteps b c

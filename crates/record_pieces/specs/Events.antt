@@ -23,6 +23,7 @@ use Rattle.record_table.specs.Nodes.{origin}
 use Rattle.reclaim_api.specs.declared.holding.Holding.{Holding}
 use Rattle.reclaim_api.specs.Frames.{had}
 use Rattle.record_pieces.specs.Hands.{in_hand}
+use Rattle.record_pieces.specs.Spares.{IsSpareIn, KeepsSpares, KeepsSparesBut}
 use Rattle.record_pieces.specs.OwnSteps.{OneStep, own_load, own_store}
 use Rattle.record_pieces.specs.Giving.{GivesChains}
 use Rattle.record_pieces.specs.Manners.{Manner}
@@ -93,6 +94,23 @@ dropped (retired r) = 1
 dropped (placed call reply position) = 0
 dropped ended = 0
 
+-- and how many of them it retires
+abbrev pub retirements : Event → ℕ
+retirements begun = 0
+retirements (hopped p at f h seen) = 0
+retirements (keyed r key) = 0
+retirements (looked at f link seen) = 0
+retirements (exchanged at f expected new call refusal) = 0
+retirements (published at f expected own call refusal) = 0
+retirements (unlinked at f gone new refusal) = 0
+retirements (took r) = 0
+retirements (refused n) = 0
+retirements (stored_own r f payload) = 0
+retirements (gave_back r) = 0
+retirements (retired r) = 1
+retirements (placed call reply position) = 0
+retirements ended = 0
+
 -- a step on a node's word
 abbrev pub node_step : Book → StepKind → Node → ℕ → ℕ → ℕ → Step
 node_step b kind at f found left = record { kind = kind; word = Field (index_of (origin at)) f; held = held_at (origin at); found = found; left = left; idle = idle b }
@@ -114,16 +132,44 @@ Exchanges k at f expected new (Some link) b c = (n : ℕ) × (link ≡ link_in n
 abbrev pub HandsOut : RefParts → ℕ → Book → Book → Type 0
 HandsOut r birth b c = (v : View) × (w : View) × (v.own ≡ b) × (w.own ≡ c) × (w ≡ handed_out v r birth)
 
--- as many records are spare as before, none was drawn, and none became the caller's own
+-- the same records are spare as before and no more, none was drawn or reused, and none became the caller's own
 pub record KeepsStock (b c : Book) : Type 0 where
   pub spare : had is_spare c ≡ had is_spare b
+  pub kept : KeepsSpares b c
   pub drawn : c.moves.drawn ≡ b.moves.drawn
+  pub reused : c.moves.reused ≡ b.moves.reused
   pub births : c.moves.births ≡ b.moves.births
 
--- one record became the caller's own, and none was drawn
+-- one record became the caller's own, and none was drawn or reused
 pub record CountsBirth (b c : Book) : Type 0 where
   pub births : c.moves.births ≡ b.moves.births + 1
   pub drawn : c.moves.drawn ≡ b.moves.drawn
+  pub reused : c.moves.reused ≡ b.moves.reused
+
+-- one record was reused, or one was drawn
+pub record CountsReuse (b c : Book) : Type 0 where
+  pub drawn : c.moves.drawn ≡ b.moves.drawn
+  pub reused : c.moves.reused ≡ b.moves.reused + 1
+
+pub record CountsDraw (b c : Book) : Type 0 where
+  pub drawn : c.moves.drawn ≡ b.moves.drawn + 1
+  pub reused : c.moves.reused ≡ b.moves.reused
+
+-- an own record came to be spare beside those that were, and none was moved otherwise
+pub record SetsAside (b : Book) (r : RefParts) (c : Book) : Type 0 where
+  pub is_spare_now : IsSpareIn c r
+  pub kept : KeepsSpares b c
+  pub spare : had is_spare c ≡ had is_spare b + 1
+  pub drawn : c.moves.drawn ≡ b.moves.drawn
+  pub reused : c.moves.reused ≡ b.moves.reused
+  pub births : c.moves.births ≡ b.moves.births
+
+-- a spare record came to be the caller's own, and all others are spare still
+pub record TakesSpare (b : Book) (r : RefParts) (c : Book) : Type 0 where
+  pub was_spare : IsSpareIn b r
+  pub kept : KeepsSparesBut r.index b c
+  pub spare : had is_spare b ≡ had is_spare c + 1
+  pub counts : CountsBirth b c
 
 -- the caller had the record as free, at the generation before this one
 pub record WasFree (b : Book) (r : RefParts) : Type 0 where
@@ -135,13 +181,13 @@ pub record WasFree (b : Book) (r : RefParts) : Type 0 where
 module _ (m : Manner) (k : Setup) where
   -- how a record was got that is no spare one: from the free chain; or, when that has none, from a chain of the pool's; or, when that has none either, it was drawn
   pub data Gets (b : Book) (r : RefParts) : Book → Type 0 where
-    from_free : (n : ℕ) (c : Book) → WasFree b r → OneStep b (own_load b r 1 n) c → c.moves.drawn ≡ b.moves.drawn → Gets b r c
-    from_pool : (d : Book) (n : ℕ) (c : Book) → had is_free b ≡ 0 → m.takes k b true d → WasFree d r → OneStep d (own_load d r 1 n) c → c.moves.drawn ≡ b.moves.drawn → Gets b r c
-    from_draw : (d c : Book) → had is_free b ≡ 0 → m.takes k b false d → m.draws k d r c → c.moves.drawn ≡ b.moves.drawn + 1 → Gets b r c
+    from_free : (n : ℕ) (c : Book) → WasFree b r → OneStep b (own_load b r 1 n) c → CountsReuse b c → Gets b r c
+    from_pool : (d : Book) (n : ℕ) (c : Book) → had is_free b ≡ 0 → m.takes k b true d → WasFree d r → OneStep d (own_load d r 1 n) c → CountsReuse b c → Gets b r c
+    from_draw : (d c : Book) → had is_free b ≡ 0 → m.takes k b false d → m.draws k d r c → CountsDraw b c → Gets b r c
 
   -- an own record was got, and the reclaimer answered one birth: a spare one, which keeps the birth that it has; or, when there is none, one that was handed out with it, which leaves none spare
   pub data Takes (b : Book) (r : RefParts) (c : Book) : Type 0 where
-    from_spare : (d : Book) (birth n : ℕ) → m.bears k b birth d → OneStep d (own_load d r 1 n) c → had is_spare b ≡ had is_spare c + 1 → CountsBirth b c → Takes b r c
+    from_spare : (d : Book) (birth n : ℕ) → m.bears k b birth d → OneStep d (own_load d r 1 n) c → TakesSpare b r c → Takes b r c
     handed : (d e : Book) (birth : ℕ) → had is_spare b ≡ 0 → Gets b r d → d.moves.births ≡ b.moves.births → m.bears k d birth e → HandsOut r birth e c → CountsBirth d c → had is_spare c ≡ 0 → Takes b r c
 
   -- none was got: no record was idle, the pool had no chain, and the draw found none left
@@ -164,12 +210,13 @@ module _ (m : Manner) (k : Setup) where
   Acts (took r) b c = Takes b r c
   Acts (refused n) b c = FindsNone b n c
   Acts (stored_own r f payload) b c = ((found : ℕ) × OneStep b (own_store b r f found (packed_number r.generation payload)) c) × KeepsStock b c
-  Acts (gave_back r) b c = ((found : ℕ) × (left : ℕ) × OneStep b (own_store b r 1 found left) c) × (had is_spare c ≡ had is_spare b + 1) × (c.moves.drawn ≡ b.moves.drawn) × (c.moves.births ≡ b.moves.births)
+  Acts (gave_back r) b c = ((found : ℕ) × (left : ℕ) × OneStep b (own_store b r 1 found left) c) × SetsAside b r c
   Acts (retired r) b c = ((d : Book) × (f : Freed) × m.puts_away k b r f d × GivesChains m.shelves (m.gives k) f d c) × KeepsStock b c
   Acts (placed call reply position) b c = ((n : ℕ) × OneStep b (placing_load b n) c) × (c.answered ≡ b.answered ++ read_at position call reply ∷ []) × KeepsStock b c
   Acts ended b c = m.leaves k b c × KeepsStock b c
 
-  -- an event does so, and of records in hand the caller has more by those that came, and fewer by those that left
+  -- an event does so, and of records in hand the caller has more by those that came, and fewer by those that left, of which it counts those that it retired
   pub record Does (e : Event) (b c : Book) : Type 0 where
     pub acts : Acts e b c
     pub hand : in_hand c + dropped e ≡ in_hand b + gained e
+    pub retires : c.moves.retired ≡ b.moves.retired + retirements e

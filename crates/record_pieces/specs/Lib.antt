@@ -1,4 +1,5 @@
 pub mod Hands
+pub mod Spares
 pub mod OwnSteps
 pub mod Giving
 pub mod Manners

@@ -1,3 +1,4 @@
 pub mod Answers
+pub mod Spares
 pub mod Going
 pub mod Knowing

@@ -7,7 +7,7 @@ use Rattle.manager.specs.Counted.{shown}
 use Rattle.manager.proofs.MoveCounts.{freed_is, spent_is}
 use Rattle.reclaim_api.proofs.Kept.{spare_rest}
 use Rattle.manager.proofs.Stay.{chains_freed}
-use Rattle.manager.proofs.Stocks.{spares_kept}
+use Rattle.manager.proofs.Stocks.{stays_kept, spares_kept}
 use Rattle.manager.proofs.FreeGivings.{rest_then, gives_rest, enters_on}
 use Rattle.manager.proofs.callers.enter.Goals as goal
 
@@ -32,9 +32,11 @@ pub returns-clause-rest : goal.returns-clause-rest
 returns-clause-rest g c = let q : View = view c.enter-left.new.pass in let w : View = view c.give_chains.new.caller.pass in rest_then (view c.args.caller.now.pass) q w c.enter-left.ensures.rest (gives_rest q w c.give_chains.ensures.free)
 
 pub returns-clause-stock : goal.returns-clause-stock
-returns-clause-stock g c = let a = c.args.caller.now in let b = c.give_chains.new.caller in record {
+returns-clause-stock g c = let a = c.args.caller.now in let b = c.give_chains.new.caller in let u : View = view a.pass in let v : View = view c.enter-left.new.pass in let w : View = view b.pass in record {
   spare = spares_kept _ a.pass b.pass a.local b.local a.free a.spare b.free b.spare c.requires.caller.chains c.give_chains.ensures.caller.chains (ap (λ (x : Chain). x.count) c.give_chains.ensures.spare);
+  kept = λ r was. stays_kept v w (spare_rest v w c.give_chains.ensures.free.rest) r (stays_kept u v (spare_rest u v c.enter-left.ensures.rest.rest) r was);
   drawn = ap (λ (m : Moves). m.drawn) c.give_chains.ensures.free.moves ∙ ap (λ (m : Moves). m.drawn) c.enter-left.ensures.rest.moves;
+  reused = ap (λ (m : Moves). m.reused) c.give_chains.ensures.free.moves ∙ ap (λ (m : Moves). m.reused) c.enter-left.ensures.rest.moves;
   births = ap (λ (m : Moves). m.births) c.give_chains.ensures.free.moves ∙ ap (λ (m : Moves). m.births) c.enter-left.ensures.rest.moves;
 }
 

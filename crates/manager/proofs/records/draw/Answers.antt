@@ -56,7 +56,7 @@ pub returns-clause-births : goal.returns-clause-births
 returns-clause-births g c = ap (λ (m : Moves). m.births) c.in_ok-r.ensures.rest.moves
 
 pub returns-clause-moves : goal.returns-clause-moves
-returns-clause-moves g c = ap (λ (m : Moves). m.drawn) c.in_ok-r.ensures.rest.moves
+returns-clause-moves g c = let moves = c.in_ok-r.ensures.rest.moves in record { drawn = ap (λ (m : Moves). m.drawn) moves; reused = ap (λ (m : Moves). m.reused) moves }
 
 pub returns-clause-hand : goal.returns-clause-hand
 returns-clause-hand g c = let e = c.in_ok-r.ensures in new_hand (view c.args.caller.now.pass) (view c.draw.new.pass) c.in_ok-r.r e.new e.rest

@@ -13,7 +13,7 @@ use Rattle.manager.proofs.Stocks.{no_spare}
 use Rattle.manager.proofs.records.fresh.Goals as goal
 
 pub returns-in-Some-clause-did : goal.returns-in-Some-clause-did
-returns-in-Some-clause-did g c = let e = c.in-Some.ensures in let d = e.does in record { acts = from_spare d.0 d.1 d.2 d.3 d.4 e.stock.0 e.stock.1; hand = omega (arith, e.hand) }
+returns-in-Some-clause-did g c = let e = c.in-Some.ensures in let d = e.does in record { acts = from_spare d.0 d.1 d.2 d.3 d.4 e.stock; hand = omega (arith, e.hand); retires = omega (arith, e.retired) }
 
 pub returns-clause-did : goal.returns-clause-did
 returns-clause-did g c = let k = setup_of c.args.table.now in let h = c.hand_out.ensures.does in let b = (view c.args.caller.now.pass).own in let w = (view c.hand_out.new.caller.pass).own in
@@ -25,6 +25,7 @@ returns-clause-did g c = let k = setup_of c.args.table.now in let h = c.hand_out
       acts = subst (λ (z : RefParts). Takes m k b z w) (sym c.hand_out.ensures.record)
           (handed _ h.0 h.1 (no_spare _ a.pass a.local a.free a.spare c.requires.caller.chains none.1) gets (c.take_next.ensures.births ∙ ap (λ x. (view x.pass).own.moves.births) none.0) h.2 h.3 stock.1 (stock.0 ∙ no_spare _ next.pass next.local next.free next.spare c.take_next.ensures.caller.chains left));
       hand = omega (arith, c.hand_out.ensures.hand, c.in_ok-r.ensures.hand, before);
+      retires = omega (arith, c.hand_out.ensures.retired, c.take_next.ensures.made.1.retired, ap (λ x. (view x.pass).own.moves.retired) none.0);
     }
 
 pub returns-clause-keeps : goal.returns-clause-keeps

@@ -60,8 +60,12 @@ returns-clause-stock g c = let a = c.args.caller.now in let b = c.birth-birth.ne
   record {
     births = handed_births (view b.pass) (view z) c.args.r c.birth-birth.result (drawn g c) c.hand_out.ensures.steps ∙ ap (λ (m : Moves). m.births + 1) rest;
     drawn = (handed_moves (view b.pass) (view z) c.args.r c.birth-birth.result (drawn g c) c.hand_out.ensures.steps).drawn ∙ ap (λ (m : Moves). m.drawn) rest;
+    reused = (handed_moves (view b.pass) (view z) c.args.r c.birth-birth.result (drawn g c) c.hand_out.ensures.steps).reused ∙ ap (λ (m : Moves). m.reused) rest;
   },
 )
+
+pub returns-clause-retired : goal.returns-clause-retired
+returns-clause-retired g c = (handed_moves (view c.birth-birth.new.pass) (view c.hand_out.new.pass) c.args.r c.birth-birth.result (drawn g c) c.hand_out.ensures.steps).retired ∙ ap (λ (m : Moves). m.retired) c.birth-birth.ensures.rest.moves
 
 pub returns-clause-hand : goal.returns-clause-hand
 returns-clause-hand g c = let b = c.birth-birth.new in handed_hand (view b.pass) (view c.hand_out.new.pass) c.args.r c.birth-birth.result (drawn g c) c.hand_out.ensures.steps ∙ hand_left (view c.args.caller.now.pass) (view b.pass) c.birth-birth.ensures.rest

@@ -3,14 +3,15 @@ use Rattle.record_memory.specs.declared.books.Moves.{Moves}
 use Rattle.manager.specs.Counted.{shown}
 use Rattle.manager.proofs.MoveCounts.{freed_is, spent_is}
 use Rattle.record_memory.specs.declared.books.Setup.{Setup}
+use Rattle.record_memory.specs.declared.books.View.{View}
 use Rattle.record_table.specs.Handles.{view}
 use Rattle.row_words.specs.declared.links.Chain.{Chain}
-use Rattle.reclaim_api.proofs.Kept.{spare_rest_but, own_rest_but}
+use Rattle.reclaim_api.proofs.Kept.{spare_rest, spare_rest_but, own_rest_but}
 use Rattle.reclaim_api.proofs.Keeping.{held_then}
 use Rattle.record_pieces.proofs.Hands.{hand_rest_but}
 use Rattle.manager.proofs.Stay.{chains_freed, keeps_after}
 use Rattle.manager.proofs.FreeGivings.{gives_rest, gives_owns, gives_hand}
-use Rattle.manager.proofs.Stocks.{spares_kept}
+use Rattle.manager.proofs.Stocks.{stays_kept, spares_kept}
 use Rattle.manager.proofs.records.put_away.Goals as goal
 
 pub give_chains-requires-clause-caller : goal.give_chains-requires-clause-caller
@@ -41,11 +42,16 @@ returns-clause-owns g c r own = let a = c.args.caller.now in let e = c.put_away-
     (own_rest_but (view a.pass) (view q) c.args.taken c.requires.taken.0 c.requires.taken.1 e.rest (ap (λ (k : Setup). k.records) e.pass.setup) r own)
 
 pub returns-clause-stock : goal.returns-clause-stock
-returns-clause-stock g c = let a = c.args.caller.now in let b = c.give_chains.new.caller in record {
+returns-clause-stock g c = let a = c.args.caller.now in let b = c.give_chains.new.caller in let u : View = view a.pass in let v : View = view c.put_away-left.new.pass in let w : View = view b.pass in record {
   spare = spares_kept _ a.pass b.pass a.local b.local a.free a.spare b.free b.spare c.requires.caller.chains c.give_chains.ensures.caller.chains (ap (λ (x : Chain). x.count) c.give_chains.ensures.spare);
+  kept = λ r was. stays_kept v w (spare_rest v w c.give_chains.ensures.free.rest) r (stays_kept u v (spare_rest_but u v c.args.taken c.requires.taken.0 c.requires.taken.1 c.put_away-left.ensures.rest) r was);
   drawn = ap (λ (m : Moves). m.drawn) c.give_chains.ensures.free.moves ∙ ap (λ (m : Moves). m.drawn) c.put_away-left.ensures.rest.moves;
+  reused = ap (λ (m : Moves). m.reused) c.give_chains.ensures.free.moves ∙ ap (λ (m : Moves). m.reused) c.put_away-left.ensures.rest.moves;
   births = ap (λ (m : Moves). m.births) c.give_chains.ensures.free.moves ∙ ap (λ (m : Moves). m.births) c.put_away-left.ensures.rest.moves;
 }
+
+pub returns-clause-retired : goal.returns-clause-retired
+returns-clause-retired g c = ap (λ (m : Moves). m.retired) c.give_chains.ensures.free.moves ∙ ap (λ (m : Moves). m.retired) c.put_away-left.ensures.rest.moves
 
 pub returns-clause-hand : goal.returns-clause-hand
 returns-clause-hand g c = ap (λ (n : ℕ). n + 1) (gives_hand (view c.put_away-left.new.pass) (view c.give_chains.new.caller.pass) c.give_chains.ensures.free)

@@ -7,7 +7,7 @@ use Rattle.manager.proofs.Stay.{inside_after, chains_after}
 use Rattle.record_memory.specs.declared.books.Moves.{Moves}
 use Rattle.manager.proofs.MoveCounts.{same_moves, counted_still}
 use Rattle.manager.proofs.Stocks.{spares_in}
-use Rattle.manager.proofs.Spares.{room_for, pushed_makes, pushed_limbo, pushed_moves, pushed_free, pushed_owns, pushed_hand, pushed_list}
+use Rattle.manager.proofs.Spares.{room_for, pushed_makes, pushed_limbo, pushed_moves, pushed_kept, pushed_spare, pushed_free, pushed_owns, pushed_hand, pushed_list}
 use Rattle.manager.proofs.records.set_spare.Goals as goal
 
 pub overflow_add-caller : goal.overflow_add-caller
@@ -43,7 +43,14 @@ returns-clause-stock g c = let a = c.args.caller.now in let q = c.set_aside-r.ne
     let after : Chain = record { head = Some c.set_aside-r.result; count = a.spare.count + 1 } in
     let ref : IsRef c.args.own = subst IsRef (c.r.view_is ∙ e.record) c.r.invariant in let head : after.head ≡ Some c.args.own = ap (λ (z : RefParts). Some z) e.record in
     let moves = pushed_moves (view a.pass) (view q) a.spare after c.args.own c.requires.own.0 c.requires.caller.chains.spares c.requires.own.1 ref e.step head refl in
-    let before = spares_in _ a.pass a.local a.free a.spare c.requires.caller.chains in let now = spares_in _ q a.local a.free after (returns-clause-caller g c).chains in (omega arith, ap (λ (m : Moves). m.drawn) moves, ap (λ (m : Moves). m.births) moves)
+    let before = spares_in _ a.pass a.local a.free a.spare c.requires.caller.chains in let now = spares_in _ q a.local a.free after (returns-clause-caller g c).chains in record {
+      is_spare_now = pushed_spare (view a.pass) (view q) a.spare after c.args.own c.requires.own.0 c.requires.caller.chains.spares c.requires.own.1 ref e.step head refl;
+      kept = pushed_kept (view a.pass) (view q) a.spare after c.args.own c.requires.own.0 c.requires.caller.chains.spares c.requires.own.1 ref e.step head refl;
+      spare = omega arith;
+      drawn = ap (λ (m : Moves). m.drawn) moves;
+      reused = ap (λ (m : Moves). m.reused) moves;
+      births = ap (λ (m : Moves). m.births) moves;
+    }
 
 pub returns-clause-hand : goal.returns-clause-hand
 returns-clause-hand g c = let a = c.args.caller.now in let e = c.set_aside-r.ensures in

@@ -51,7 +51,7 @@ returns-clause-births g c = ap (λ (x : View). x.own.moves.births) c.take_free-r
 pub returns-clause-again : goal.returns-clause-again
 returns-clause-again g c = let v : View = view c.args.caller.now.pass in let e = c.take_free-r.ensures in let was = e.step.was in (
   record { share = was.share; known = ap (λ (i : ℕ). get_or v.own.mine (i - 1) None) e.index ∙ was.known; free = was.free; next = e.generation ∙ ap (λ (n : ℕ). n + 1) (sym was.generation) },
-  ap (λ (x : View). x.own.moves.drawn) e.step.view,
+  record { drawn = ap (λ (x : View). x.own.moves.drawn) e.step.view; reused = ap (λ (x : View). x.own.moves.reused) e.step.view },
 )
 
 pub returns-clause-hand : goal.returns-clause-hand

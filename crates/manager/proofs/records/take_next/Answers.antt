@@ -1,4 +1,4 @@
-use Rattle.std.proofs.Common.{◌≡◌, List, ap, ◌∙◌, subst, true, false, arith}
+use Rattle.std.proofs.Common.{◌≡◌, ◌+◌, List, ap, ◌∙◌, subst, true, false, arith}
 use Rattle.record_memory.specs.declared.steps.Step.{Step}
 use Rattle.record_memory.specs.declared.books.Moves.{Moves}
 use Rattle.record_memory.specs.declared.books.View.{View}
@@ -34,7 +34,7 @@ returns-then-not-take_chain-clause-did g c = let k = setup_of c.args.table.now i
     let empty : idle (view a.pass).own ≡ 0 = (let i = h.all in let x = none_in Free (view a.pass) a.free h.frees c.in_default.ensures.none.1 in let y = none_in Spare (view a.pass) a.spare h.spares c.requires.none in omega arith) in
     let drew = c.draw.new.caller in let spares : drew.spare.count ≡ a.spare.count = ap (λ (x : Chain). x.count) (c.draw.ensures.spare ∙ c.take_chain.ensures.spare) ∙ ap (λ x. x.spare.count) same in
     drew_next m g.A.Allocator.draws g.A.Allocator.refuses k (view a.pass).own u w c.take_chain.ensures.of.setup (λ r x. x) (λ n x. x) none empty (no_free _ a.pass a.local a.free a.spare h c.in_default.ensures.none.1)
-    (spares_kept _ a.pass drew.pass a.local drew.local a.free a.spare drew.free drew.spare h c.draw.ensures.caller.chains spares) (ap (λ (x : Moves). x.drawn) found.0.moves ∙ ap (λ x. (view x.pass).own.moves.drawn) same) (c.draw.ensures.births ∙ c.take_chain.ensures.births ∙ c.take_free.ensures.births) c.draw.result c.draw.ensures.does c.draw.ensures.moves
+    (spares_kept _ a.pass drew.pass a.local drew.local a.free a.spare drew.free drew.spare h c.draw.ensures.caller.chains spares) (found.0.moves ∙ ap (λ x. (view x.pass).own.moves) same) (c.draw.ensures.births ∙ c.take_chain.ensures.births ∙ c.take_free.ensures.births) c.draw.result c.draw.ensures.does c.draw.ensures.moves
 
 pub returns-clause-made : goal.returns-clause-made
 returns-clause-made g c = let same = c.in_default.ensures.none.0 in let a = c.take_chain.ensures.made in let b = c.in-Some-take_free.ensures.made.1 in
@@ -44,7 +44,8 @@ pub returns-clause-did : goal.returns-clause-did
 returns-clause-did g c = let k = setup_of c.args.table.now in let u : View = view c.take_chain.new.caller.pass in
     let same = c.in_default.ensures.none.0 in let a = c.args.caller.now in let found = c.take_chain.ensures.some c.if-not-take_chain.false in let e = c.in-Some-take_free.ensures in
     let some = subst (λ x. takes_by g.P.Pool.SHELVES g.P.Pool.busy k (view x.pass).own true u.own) same (took_some g.P.Pool.SHELVES g.P.Pool.busy k (view c.take_free.new.caller.pass) u c.take_free.ensures.of.setup _ found) in
-    from_pool u.own e.made.0 _ (no_free _ a.pass a.local a.free a.spare c.requires.caller.chains c.in_default.ensures.none.1) some e.again.0 e.made.1.appended (e.again.1 ∙ ap (λ (x : Moves). x.drawn) found.moves ∙ ap (λ x. (view x.pass).own.moves.drawn) same)
+    from_pool u.own e.made.0 _ (no_free _ a.pass a.local a.free a.spare c.requires.caller.chains c.in_default.ensures.none.1) some e.again.0 e.made.1.appended
+    (let before = found.moves ∙ ap (λ x. (view x.pass).own.moves) same in record { drawn = e.again.1.drawn ∙ ap (λ (x : Moves). x.drawn) before; reused = e.again.1.reused ∙ ap (λ (x : Moves). x.reused + 1) before })
 
 pub returns-clause-owns : goal.returns-clause-owns
 returns-clause-owns g c r own = c.in-Some-take_free.ensures.owns r (c.take_chain.ensures.owns r (c.take_free.ensures.owns r own))

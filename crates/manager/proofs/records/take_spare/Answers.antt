@@ -14,13 +14,14 @@ use Rattle.reclaim_api.specs.Chained.{IsChainOf}
 use Rattle.reclaim_api.specs.Frames.{in_away}
 use Rattle.reclaim_api.proofs.Keeping.{held_then}
 use Rattle.record_pieces.specs.OwnSteps.{OneStep, own_load}
+use Rattle.record_pieces.specs.Events.{TakesSpare}
 use Rattle.record_pieces.proofs.Hands.{hand_left}
-use Rattle.manager.proofs.Stay.{AreLists, lists_of, lists_stay, inside_after, keeps_after, answers_after, chains_born}
+use Rattle.manager.proofs.Stay.{mine_stays, AreLists, lists_of, lists_stay, inside_after, keeps_after, answers_after, chains_born}
 use Rattle.manager.proofs.Pops.{row_next, pop_count}
 use Rattle.manager.proofs.MoveCounts.{same_moves, counted_still}
-use Rattle.manager.proofs.Stocks.{spares_in}
+use Rattle.manager.proofs.Stocks.{stays_kept, spares_in}
 use Rattle.manager.proofs.Owns.{owns_mine}
-use Rattle.manager.proofs.Takings.{spare_as, first_spare, taken_makes, taken_limbo, taken_moves, taken_births, taken_free, taken_owns, taken_hand, taken_rest}
+use Rattle.manager.proofs.Takings.{spare_as, first_spare, taken_makes, taken_limbo, taken_moves, taken_births, taken_was, taken_kept, taken_free, taken_owns, taken_hand, taken_rest}
 use Rattle.manager.proofs.records.take_spare.Goals as goal
 
 -- the chains are lists still once the birth was answered
@@ -89,13 +90,21 @@ returns-clause-owns g c x own = let a = c.args.caller.now in let b = c.birth-bir
 pub returns-clause-stock : goal.returns-clause-stock
 returns-clause-stock g c = let a = c.args.caller.now in let b = c.birth-birth in let q = c.take_spare-own.new.pass in let v : View = view b.new.pass in let w : View = view q in let r = c.in_ok-first.first in let t = took g c in let l = lists g c in
     let after : Chain = record { head = c.take_spare-own.result.1; count = a.spare.count - 1 } in let rest = b.ensures.rest.moves in
-    let before = spares_in _ a.pass a.local a.free a.spare c.requires.caller.chains in let now = spares_in _ q b.new.local a.free after (returns-clause-caller g c).chains in let some = pop_count Spare v w a.spare after r l.spares c.in_ok-first.was in (
-      omega arith,
-      record {
+    let before = spares_in _ a.pass a.local a.free a.spare c.requires.caller.chains in let now = spares_in _ q b.new.local a.free after (returns-clause-caller g c).chains in let some = pop_count Spare v w a.spare after r l.spares c.in_ok-first.was in
+    let moves = taken_moves v w a.spare after r l.spares c.in_ok-first.was t.number t.step t.next refl in let mine = b.ensures.rest.mine in
+    subst (λ (z : RefParts). TakesSpare (view a.pass).own z w.own) (sym c.take_spare-own.ensures.record) record {
+      was_spare = stays_kept v (view a.pass) (mine_stays Spare v (view a.pass) (sym mine)) r (taken_was v w a.spare after r l.spares c.in_ok-first.was t.number t.step t.next refl);
+      kept = λ x ne is. taken_kept v w a.spare after r l.spares c.in_ok-first.was t.number t.step t.next refl x ne (stays_kept (view a.pass) v (mine_stays Spare (view a.pass) v mine) x is);
+      spare = omega arith;
+      counts = record {
         births = taken_births v w a.spare after r l.spares c.in_ok-first.was t.number t.step t.next refl ∙ ap (λ (m : Moves). m.births + 1) rest;
-        drawn = (taken_moves v w a.spare after r l.spares c.in_ok-first.was t.number t.step t.next refl).drawn ∙ ap (λ (m : Moves). m.drawn) rest;
-      },
-    )
+        drawn = moves.drawn ∙ ap (λ (m : Moves). m.drawn) rest;
+        reused = moves.reused ∙ ap (λ (m : Moves). m.reused) rest;
+      };
+    }
+
+pub returns-clause-retired : goal.returns-clause-retired
+returns-clause-retired g c = (made g c).retired ∙ ap (λ (m : Moves). m.retired) c.birth-birth.ensures.rest.moves
 
 pub returns-clause-hand : goal.returns-clause-hand
 returns-clause-hand g c = let a = c.args.caller.now in let v : View = view c.birth-birth.new.pass in let w : View = view c.take_spare-own.new.pass in let t = took g c in

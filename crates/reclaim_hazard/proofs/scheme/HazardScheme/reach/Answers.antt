@@ -11,6 +11,8 @@ use Rattle.record_table.specs.Nodes.{origin, reach_at}
 use Rattle.record_table.specs.declared.nodes.Node.{Node}
 use Rattle.reclaim_api.proofs.Keeping.{keeps_then}
 use Rattle.hazard_facts.specs.Pointers.{hazard}
+use Rattle.hazard_facts.proofs.Reaching.{has_reached}
+use Rattle.reclaim_api.proofs.Reached.{odd, marked_none, missing_none, holds_nothing}
 use Rattle.reclaim_hazard.specs.LocalStays.{local_on}
 use Rattle.reclaim_hazard.specs.Running.{confirms}
 use Rattle.reclaim_hazard.proofs.Loads.{keeps_else, words_still, loaded_still, has_started, start_seen}
@@ -23,6 +25,15 @@ pub returns-then-link-ne0-clause-local : goal.returns-then-link-ne0-clause-local
 returns-then-link-ne0-clause-local g c = let s = c.reach_link-link.ensures.step in let p = c.args.pass.now in let q = c.reach_link-link.new.pass in let same = ap (λ x. x.value.me.0) c.reach_link-link.ensures.pass.since in
     local_on c.args.local.now (is_inside p) (is_inside q) (since p) (since q) (view p) (view q) c.reach_link-link.ensures.pass.setup c.reach_link-link.ensures.pass.caller (ap (λ (x : View). x.own.mine) s.2.view)
     (ap (λ l. length l) (words_still g.S.Shape.facts p q (origin c.same_node.result) c.args.place s.0 s.2 same c.requires.inside.later)) (loaded_still g.S.Shape.facts p q (origin c.same_node.result) c.args.place s.0 s.2 same c.requires.inside.later) c.requires.local
+
+pub returns-then-link-ne0-clause-reached : goal.returns-then-link-ne0-clause-reached
+returns-then-link-ne0-clause-reached g c = let s = c.reach_link-link.ensures.step in let p = c.args.pass.now in let q = c.reach_link-link.new.pass in let same = ap (λ x. x.value.me.0) c.reach_link-link.ensures.pass.since in
+    let told : ReachedLink g.S.Shape.facts hazard (view p) (origin c.args.from) 3 (reach_at p c.args.place) s.0 (view q) = subst (λ (x : Node). ReachedLink g.S.Shape.facts hazard (view p) (origin x) 3 (reach_at p c.args.place) s.0 (view q)) c.same_node.ensures s.2 in (
+      ap mark_bit (sym c.link.view_is) ∙ odd c.link.inside.flags c.if-link-ne0.true,
+      has_seen g.S.Shape.facts hazard p q (view p) (origin c.args.from) (reach_at p c.args.place) s.0 told told.whole refl refl c.requires.place
+          (has_started g.S.Shape.facts p q (origin c.args.from) c.args.place s.0 told same c.requires.inside.later) (start_seen g.S.Shape.facts p q (origin c.args.from) c.args.place s.0 told same c.requires.inside.later) c.reach_link-link.result (sym s.1),
+      holds_nothing g.S.Shape.facts hazard q (view p) (origin c.args.from) (reach_at p c.args.place) s.0 told (λ m t. has_reached m _ _ t c.requires.place) (marked_none s.0 (ap mark_bit (sym (c.link.view_is ∙ s.1)) ∙ odd c.link.inside.flags c.if-link-ne0.true)),
+    )
 
 pub returns-then-link-ne0-clause-keeps : goal.returns-then-link-ne0-clause-keeps
 returns-then-link-ne0-clause-keeps g c = let s = c.reach_link-link.ensures.step in keeps_else g.S.Shape.facts c.args.pass.now c.reach_link-link.new.pass (origin c.same_node.result) c.args.place s.0 s.2 (ap (λ x. x.value.me.0) c.reach_link-link.ensures.pass.since) c.requires.inside.later
@@ -43,6 +54,7 @@ returns-in_default-clause-reached g c = let s = c.reach_link-link.ensures.step i
       to,
       has_seen g.S.Shape.facts hazard p q (view p) (origin c.args.from) (reach_at p c.args.place) s.0 told told.whole refl refl c.requires.place
           (has_started g.S.Shape.facts p q (origin c.args.from) c.args.place s.0 told same c.requires.inside.later) (start_seen g.S.Shape.facts p q (origin c.args.from) c.args.place s.0 told same c.requires.inside.later) (link_in s.0) refl,
+      holds_nothing g.S.Shape.facts hazard q (view p) (origin c.args.from) (reach_at p c.args.place) s.0 told (λ m t. has_reached m _ _ t c.requires.place) (missing_none s.0 clear to),
     )
 
 pub returns-in_default-clause-keeps : goal.returns-in_default-clause-keeps
