@@ -69,7 +69,11 @@ root_leaves setup i Swap found left at_it own own_left on = on
 root_leaves setup i Add found left at_it own own_left on = on
 root_leaves setup i Exchange found left at_it own own_left on = (at_it, own, own_left)
 
--- it is of one of three kinds
+-- a load, or an exchange that is refused, leaves what it found
+leaves_same : (kind : StepKind) (n : ℕ) → (kind ≡ Load) ⊎ (kind ≡ Exchange) → LeavesLink kind n n
+leaves_same kind n on = ⊎_elim (λ x. subst (λ (k : StepKind). LeavesLink k n n) (sym x) refl) (λ x. subst (λ (k : StepKind). LeavesLink k n n) (sym x) tt) on
+
+-- a step on a node is of one of three kinds
 node_kind : (kind : StepKind) (found left : ℕ) → LeavesLink kind found left → (kind ≡ Load) ⊎ ((kind ≡ Store) ⊎ (kind ≡ Exchange))
 node_kind Load found left on = inl refl
 node_kind Store found left on = inr (inl refl)
@@ -201,4 +205,4 @@ module _ (shape : ShapeFacts) (cover : CoverFacts) (setup : Setup) (is_setup : I
   }
 
   pub node_finds : (o : Origin) (n : NodeOf o) (kind : StepKind) (word f : ℕ) → word ≡ address setup.callers (Field (index_of o) f) → f < 8 → (kind ≡ Load) ⊎ (kind ≡ Exchange) → StepFits setup v.own.caller (node_step v kind o f (get_or t.words word 0) (get_or t.words word 0))
-  node_finds o n kind word f is high on = let own = found_own o n word f is high in finds_held o n kind f (get_or t.words word 0) (get_or t.words word 0) own own (⊎_elim (λ x. subst (λ (k : StepKind). LeavesLink k (get_or t.words word 0) (get_or t.words word 0)) (sym x) refl) (λ x. subst (λ (k : StepKind). LeavesLink k (get_or t.words word 0) (get_or t.words word 0)) (sym x) tt) on)
+  node_finds o n kind word f is high on = let own = found_own o n word f is high in finds_held o n kind f (get_or t.words word 0) (get_or t.words word 0) own own (leaves_same kind (get_or t.words word 0) on)

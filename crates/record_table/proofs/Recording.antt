@@ -96,7 +96,8 @@ module _ (s : ShapeFacts) (v : View) (o : Origin) (f : ℕ) (place : Word) (name
   Exchanges setup old new n w = Adds Exchange place n (cond (eqb n (link_word setup o old)) (link_word setup o new) n) v w
 
   pub adds_exchange : (setup : Setup) → v.setup ≡ setup → (old new : LinkParts) (call : Option Call) (n : ℕ) (w : View) → ToldExchange s v o f old new call n w → Exchanges setup old new n w
-  adds_exchange setup same old new call n w t = subst (λ (k : Setup). Exchanges k old new n w) same (by_exchange n (link_word v.setup o old) (link_word v.setup o new) (λ left. Adds Exchange place n left v w) (λ e. adds_left Exchange old (locks_after s v o f new) n w e new call (t.made e)) (λ ne. adds_refused n w (t.refused ne)))
+  adds_exchange setup same old new call n w t = subst (λ (k : Setup). Exchanges k old new n w) same
+      (by_exchange n (link_word v.setup o old) (link_word v.setup o new) (λ left. Adds Exchange place n left v w) (λ e. adds_left Exchange old (locks_after s v o f new) n w e new call (t.made e)) (λ ne. adds_refused n w (t.refused ne)))
 
   pub adds_publish : (setup : Setup) → v.setup ≡ setup → (old new : LinkParts) (own : RefParts) (call : Option Call) → new ≡ clean own → (n : ℕ) (w : View) → ToldPublish s v o f old own call n w → Exchanges setup old new n w
   adds_publish setup same old new own call is n w t = subst (λ (z : Setup × LinkParts). Exchanges z.0 old z.1 n w) (λ k. (same k, sym is k))

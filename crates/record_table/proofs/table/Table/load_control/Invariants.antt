@@ -1,4 +1,3 @@
-use Rattle.std.proofs.Common.{◌≡◌}
 use Rattle.record_memory.specs.Memory.{word_at}
 use Rattle.record_rule.specs.Kinds.{ShowsBelow}
 use Rattle.record_rule.specs.Freeing.{LoadedBy}
