@@ -118,7 +118,7 @@ module _ (m : Manner) (k : Setup) where
       let left = back_leaves hand b q.0 p.0 (tried_keep b q.0 tries walk q.1) q.2 in
       let kept = (keeps_all m k last p.0 c (tt, tt) p.2).kept in
       let got : Gets hand (es ++ fs ++ back hand ++ last) = both_get hand (es ++ fs ++ back hand) last
-          (both_get hand (es ++ fs) (back hand) (both_get hand es fs (tries_get tries) (keep_gets hand fs (finds_keep walk))) (back_gets hand)) (keep_gets hand last (tt, tt)) in record {
+      (both_get hand (es ++ fs) (back hand) (both_get hand es fs (tries_get tries) (keep_gets hand fs (finds_keep walk))) (back_gets hand)) (keep_gets hand last (tt, tt)) in record {
         kept = λ r was. kept r (left.0 r was);
         got = λ i r at. kept r (left.1 r (got i r at));
       }
