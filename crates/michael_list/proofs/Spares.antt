@@ -58,10 +58,10 @@ back_gets (Some own) (suc i) r at = absurd (some-ne-none (took r) (sym at))
 
 tries_get : {root key hops : ℕ} {hand : Option RefParts} {es : List Event} → Insertings root key hops hand es → Gets hand es
 tries_get Insertings.none i r at = absurd (some-ne-none (took r) (sym at))
-tries_get {key = key} (Insertings.more {own = own} {before = before} {next = next} {es = es} {fs = fs} {gs = gs} other tries walk record_got) =
+tries_get {key = key} (Insertings.more {own = own} {before = before} {next = next} {es = es} {fs = fs} {gs = gs} other tries walk record_got) i r at =
     both_get (Some own) (es ++ fs ++ gs) (links key before next own (Some other))
     (both_get (Some own) (es ++ fs) gs (both_get (Some own) es fs (earlier_gets es record_got (tries_get tries)) (keep_gets (Some own) fs (finds_keep walk))) (record_gets record_got))
-    (keep_gets (Some own) (links key before next own (Some other)) (tt, (tt, (tt, tt))))
+    (keep_gets (Some own) (links key before next own (Some other)) (tt, (tt, (tt, tt)))) i r at
 
 -- all that were spare are, but the own one that the call has from its tries
 abbrev KeepsBut : Option RefParts → Book → Book → Type 0
@@ -76,7 +76,7 @@ others_then own b c d others kept r was = by (others r was)
     by (inr same) = inr same
 
 but_then : (hand : Option RefParts) (b c d : Book) → KeepsBut hand b c → KeepsSpares c d → KeepsBut hand b d
-but_then None b c d h k r was = k r (h r was)
+but_then None b c d h k = λ r was. k r (h r was)
 but_then (Some own) b c d h k = others_then own b c d h k
 
 module _ (m : Manner) (k : Setup) where
@@ -118,7 +118,7 @@ module _ (m : Manner) (k : Setup) where
       let left = back_leaves hand b q.0 p.0 (tried_keep b q.0 tries walk q.1) q.2 in
       let kept = (keeps_all m k last p.0 c (tt, tt) p.2).kept in
       let got : Gets hand (es ++ fs ++ back hand ++ last) = both_get hand (es ++ fs ++ back hand) last
-          (both_get hand (es ++ fs) (back hand) (both_get hand es fs (tries_get tries) (keep_gets hand fs (finds_keep walk))) (back_gets hand)) (keep_gets hand last (tt, tt)) in record {
+      (both_get hand (es ++ fs) (back hand) (both_get hand es fs (tries_get tries) (keep_gets hand fs (finds_keep walk))) (back_gets hand)) (keep_gets hand last (tt, tt)) in record {
         kept = λ r was. kept r (left.0 r was);
         got = λ i r at. kept r (left.1 r (got i r at));
       }

@@ -2,8 +2,9 @@
 //! callers' words frees what none of them names.
 //!
 //! A try to hold loads the link, stores the target's name and loads the link again: the target is held where the
-//! link is still the same, since a scan that comes later finds the name. A caller keeps the records that it retired
-//! in one bag, and scans once there are six times as many as there are callers, so that at least half of them go.
+//! link still leads to it and has no mark, since a scan that comes later finds the name. A caller keeps the records
+//! that it retired in one bag, and scans once there are six times as many as there are callers, so that at least half
+//! of them go.
 //! After Michael, "Hazard pointers: safe memory reclamation for lock-free objects" (IEEE TPDS 2004).
 #![tactic(auto)]
 

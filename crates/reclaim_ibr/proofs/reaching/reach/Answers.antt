@@ -56,8 +56,7 @@ pub returns-in_default-clause-reached : goal.returns-in_default-clause-reached
 returns-in_default-clause-reached g c = let s = c.reach_link-link.ensures.step in let p = c.args.pass.now in let q = c.reach_link-link.new.pass in let same = ap (λ x. x.value.me.0) c.reach_link-link.ensures.pass.since in
     let link = c.link.view_is ∙ s.1 in
     let clear : mark_bit (link_in s.0) ≡ 0 = ap mark_bit (sym link) ∙ sym (and_mask c.link.inside.flags 1) ∙ c.if-link-ne0.false in
-    let to : (link_in s.0).target ≡ None = ap (λ (l : LinkParts). l.target) (sym link) ∙ c.in_default.is in
-    (
+    let to : (link_in s.0).target ≡ None = ap (λ (l : LinkParts). l.target) (sym link) ∙ c.in_default.is in (
       link_in s.0,
       clear,
       to,
@@ -134,7 +133,7 @@ returns-clause-reached g c r at = let s = c.reach_link-link.ensures.step in let 
     let clear : mark_bit (link_in s.0) ≡ 0 = ap mark_bit (sym link) ∙ sym (and_mask c.link.inside.flags 1) ∙ c.if-link-ne0.false in
     let to : (link_in s.0).target ≡ Some c.in-Some.target = ap (λ (l : LinkParts). l.target) (sym link) ∙ c.in-Some.is in
     let none : HoldsNothing c.args.place q = holds_none g.S.Shape.facts p then (origin c.args.from) c.args.place s.0 s.2 same q c.load_epoch-epoch.result c.load_epoch-epoch.ensures.loaded goes_on c.in-Some.target clear to
-        (λ found. c.if-epoch-local.false (found ∙ c.requires.local.upper)) in
+    (λ found. c.if-epoch-local.false (found ∙ c.requires.local.upper)) in
     none r (subst (λ (v : View). At v.own.guard.holds c.args.place (Some r)) c.raise.ensures.stored.1 at)
 
 pub returns-clause-keeps : goal.returns-clause-keeps

@@ -41,8 +41,7 @@ pub returns-in-None-clause-reached : goal.returns-in-None-clause-reached
 returns-in-None-clause-reached g c = let s = c.reach_link-link.ensures.step in let link = c.link.view_is ∙ s.1 in
     let began = ap (λ x. x.value.me.0) c.reach_link-link.ensures.pass.since in let started = has_started c.args._local.now c.args.pass.now c.requires.inside.inside c.requires.local in
     let clear : mark_bit (link_in s.0) ≡ 0 = ap mark_bit (sym link) ∙ sym (and_mask c.link.inside.flags 1) ∙ c.if-link-ne0.false in
-    let to : (link_in s.0).target ≡ None = ap (λ (l : LinkParts). l.target) (sym link) ∙ c.in-None.is in
-    (
+    let to : (link_in s.0).target ≡ None = ap (λ (l : LinkParts). l.target) (sym link) ∙ c.in-None.is in (
       link_in s.0,
       clear,
       to,
