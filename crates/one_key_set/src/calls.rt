@@ -1,12 +1,15 @@
 // The three calls of the set, each within a guard.
-ghost use Rattle.std.specs.Prelude.{◌≡◌, ◌<◌};
+ghost use Rattle.std.specs.Prelude.{◌≡◌, ◌<◌, ◌++◌, [], ◌∷◌, List, Some, None, MatchBool};
 ghost use Rattle.set_model.specs.declared.calls.Call.TheVariants.{Remove};
+ghost use Rattle.row_words.specs.Refs.{LinkParts};
 ghost use Rattle.record_rule.specs.HandingOut.{IsOwnOf};
 ghost use Rattle.record_table.specs.Handles.{setup_of, view};
-ghost use Rattle.manager.specs.Guards.{IsAtWork};
+ghost use Rattle.record_pieces.specs.Events.{Event, gave_back};
+ghost use Rattle.manager.specs.Guards.{IsAtWork, DidAll};
 ghost use Rattle.set_calls.specs.Going.{IsSameGuard};
 ghost use Rattle.one_key_set.specs.Knowing.{HoldsKey};
 ghost use Rattle.one_key_set.specs.Answers.{added_if, some_if, Tells, InsertTells, SearchTells};
+ghost use Rattle.one_key_set.specs.Pieces.{links, marks, TakesOut, Inserts, Removes, Searches, Repeats};
 
 use crate::answers::Added;
 use crate::looking::{Seen, look, take_out};
@@ -34,6 +37,7 @@ fn link_record<'a, R: Scheme, A: Allocator, P: Pool>(
     ensures at_work { IsAtWork guard.new }
     ensures same { IsSameGuard guard.old guard.new }
     ensures tells { InsertTells key (added_if result) (view guard.old.caller.now.pass) (view guard.new.caller.now.pass) }
+    ensures did { MatchBool result (DidAll guard.old (links key own None) guard.new) ((other : LinkParts) × DidAll guard.old (links key own (Some other) ++ gave_back own ∷ []) guard.new) }
 {
     let number = u64::from(key);
     guard.store_own(&mut own, KEY, number);
@@ -58,6 +62,7 @@ fn try_insert<'a, R: Scheme, A: Allocator, P: Pool>(
     ensures at_work { IsAtWork guard.new }
     ensures same { IsSameGuard guard.old guard.new }
     ensures tells { InsertTells key result (view guard.old.caller.now.pass) (view guard.new.caller.now.pass) }
+    ensures did { (es : List Event) × Inserts key result es × DidAll guard.old es guard.new }
 {
     match look(guard, key) {
         Seen::Absent => match guard.fresh() {
@@ -90,6 +95,9 @@ fn mark<'a, R: Scheme, A: Allocator, P: Pool>(
     ensures at_work { IsAtWork guard.new }
     ensures same { IsSameGuard guard.old guard.new }
     ensures tells { Tells (Remove key) (some_if result) (view guard.old.caller.now.pass) (view guard.new.caller.now.pass) }
+    ensures did { MatchBool result
+        ((es : List Event) × TakesOut key at es × DidAll guard.old (marks key at None ++ es) guard.new)
+        ((other : LinkParts) × DidAll guard.old (marks key at (Some other)) guard.new) }
 {
     let old = Link::to(None);
     let decides = Some(Call::Remove(u64::from(key)));
@@ -112,6 +120,7 @@ fn try_remove<'a, R: Scheme, A: Allocator, P: Pool>(
     ensures at_work { IsAtWork guard.new }
     ensures same { IsSameGuard guard.old guard.new }
     ensures tells { Tells (Remove key) result (view guard.old.caller.now.pass) (view guard.new.caller.now.pass) }
+    ensures did { (es : List Event) × Removes key result es × DidAll guard.old es guard.new }
 {
     match look(guard, key) {
         Seen::Absent => {
@@ -139,6 +148,7 @@ fn try_search<'a, R: Scheme, A: Allocator, P: Pool>(
     ensures at_work { IsAtWork guard.new }
     ensures same { IsSameGuard guard.old guard.new }
     ensures tells { SearchTells key result (view guard.old.caller.now.pass) (view guard.new.caller.now.pass) }
+    ensures did { (es : List Event) × Searches key result es × DidAll guard.old es guard.new }
 {
     let found = match look(guard, key) {
         Seen::Absent => false,
@@ -162,6 +172,7 @@ pub fn insert<'a, R: Scheme, A: Allocator, P: Pool>(
     ensures at_work { IsAtWork guard.new }
     ensures same { IsSameGuard guard.old guard.new }
     ensures tells { InsertTells key result (view guard.old.caller.now.pass) (view guard.new.caller.now.pass) }
+    ensures did { (es : List Event) × Repeats (Inserts key) Added.Again tries result es × DidAll guard.old es guard.new }
 {
     let mut left = tries;
     while left > 0 {
@@ -188,6 +199,7 @@ pub fn remove<'a, R: Scheme, A: Allocator, P: Pool>(
     ensures at_work { IsAtWork guard.new }
     ensures same { IsSameGuard guard.old guard.new }
     ensures tells { Tells (Remove key) result (view guard.old.caller.now.pass) (view guard.new.caller.now.pass) }
+    ensures did { (es : List Event) × Repeats (Removes key) None tries result es × DidAll guard.old es guard.new }
 {
     let mut left = tries;
     while left > 0 {
@@ -211,6 +223,7 @@ pub fn search<'a, R: Scheme, A: Allocator, P: Pool>(
     ensures at_work { IsAtWork guard.new }
     ensures same { IsSameGuard guard.old guard.new }
     ensures tells { SearchTells key result (view guard.old.caller.now.pass) (view guard.new.caller.now.pass) }
+    ensures did { (es : List Event) × Repeats (Searches key) None tries result es × DidAll guard.old es guard.new }
 {
     let mut left = tries;
     while left > 0 {

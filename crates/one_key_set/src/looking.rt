@@ -1,10 +1,12 @@
 // A look at what a root leads to.
-ghost use Rattle.std.specs.Prelude.{◌<◌};
+ghost use Rattle.std.specs.Prelude.{◌<◌, List};
 ghost use Rattle.record_table.specs.Handles.{setup_of, view};
 ghost use Rattle.record_table.specs.Nodes.{HoldsThere};
-ghost use Rattle.manager.specs.Guards.{IsAtWork};
+ghost use Rattle.record_pieces.specs.Events.{Event};
+ghost use Rattle.manager.specs.Guards.{IsAtWork, DidAll};
 ghost use Rattle.set_calls.specs.Going.{GoesOn};
 ghost use Rattle.one_key_set.specs.Knowing.{HoldsKey, KnowsMark, IsSeen};
+ghost use Rattle.one_key_set.specs.Pieces.{TakesOut, Reads, Looks, shown_by};
 
 use crate::shape::OneKeyShape;
 use alloc_api::Allocator;
@@ -39,9 +41,11 @@ pub(crate) fn take_out<'a, R: Scheme, A: Allocator, P: Pool>(
     requires marked { KnowsMark guard.old.caller.now.pass gone }
     ensures at_work { IsAtWork guard.new }
     ensures on { GoesOn guard.old guard.new }
+    ensures did { (es : List Event) × TakesOut key gone es × DidAll guard.old es guard.new }
 {
-    if let Ok(taken) = guard.unlink(Node::Root(key), LINK, gone, Link::to(None)) {
-        guard.retire(taken);
+    match guard.unlink(Node::Root(key), LINK, gone, Link::to(None)) {
+        Ok(taken) => guard.retire(taken),
+        Err(_) => {}
     }
 }
 
@@ -57,6 +61,7 @@ fn look_at<'a, R: Scheme, A: Allocator, P: Pool>(
     ensures at_work { IsAtWork guard.new }
     ensures on { GoesOn guard.old guard.new }
     ensures seen { IsSeen guard.new.caller.now.pass key result }
+    ensures did { (es : List Event) × Reads key at result (shown_by (view guard.new.caller.now.pass).own.updates_seen result) es × DidAll guard.old es guard.new }
 {
     let link = guard.load_link(Node::At(same_held(&at)), LINK);
     if link.is_marked() {
@@ -76,6 +81,7 @@ pub(crate) fn look<'a, R: Scheme, A: Allocator, P: Pool>(
     ensures at_work { IsAtWork guard.new }
     ensures on { GoesOn guard.old guard.new }
     ensures seen { IsSeen guard.new.caller.now.pass key result }
+    ensures did { (es : List Event) × Looks key result (shown_by (view guard.new.caller.now.pass).own.updates_seen result) es × DidAll guard.old es guard.new }
 {
     match guard.hold(0, Node::Root(key), LINK) {
         Holding::Null => Seen::Absent,
