@@ -4,6 +4,7 @@ pub mod Machines
 pub mod Facts
 pub mod Walks
 pub mod Laws
+pub mod Frozen
 pub mod Guards
 pub mod Least
 pub mod Taken
