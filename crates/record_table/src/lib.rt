@@ -52,7 +52,7 @@ pub use making::{PrepareError, prepare};
 pub use meeting::Front;
 pub use nodes::{Found, Held, Node};
 pub use passes::Pass;
-pub use record_rule::{Cover, Shape, World};
+pub use record_rule::{Cover, CoversFrozen, Shape, World};
 pub use retiring::TakenOut;
 pub use rows::Rows;
 pub use table::Table;
