@@ -21,6 +21,7 @@ pub mod HandingOut
 pub mod Asides
 pub mod ChainRows
 pub mod Links
+pub mod FrozenLinks
 pub mod Placing
 pub mod ControlSteps
 pub mod Freeing

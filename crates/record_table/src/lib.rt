@@ -25,6 +25,8 @@ mod closing;
 mod controls;
 // Calls: the owner's steps on a record.
 mod fields;
+// Calls: following links of records that may be marked.
+mod frozen;
 // Calls: handing records out.
 mod hand_out;
 // Calls: steps on the words of roots and of held records.

@@ -39,7 +39,7 @@ impl<S: Shape, R: Cover> Table<S, R> {
     }
 
     // Where word `field` of a node lies.
-    fn word_of(&self, node: &Node, field: u8) -> usize
+    pub(crate) fn word_of(&self, node: &Node, field: u8) -> usize
         requires node { IsInTable (setup_of self.now) (origin node.now) }
         requires field { field < 8 }
         ensures word { result ≡ address (setup_of self.now).callers (Field (index_of (origin node.now)) field) }
