@@ -1,5 +1,5 @@
 -- The reclaimer that frees nothing covers what links of marked records lead to.
-use Rattle.std.proofs.Common.{arith}
+use Rattle.std.proofs.Common.{refl, arith}
 use Rattle.record_rule.specs.Frozen.{FrozenLaws}
 use Rattle.cover_facts.specs.Keeping.{none}
 use Rattle.cover_facts.proofs.There.{there_sooner}
@@ -8,5 +8,6 @@ pub none_frozen : FrozenLaws none
 none_frozen = record {
   stands = λ setup x d k g q t safe h at may late behind there. there_sooner x t k g.start_taken_out behind (h k t there);
   freezes = λ setup x d k updates g q t safe h at may late behind there. h;
+  holds = λ m g q t. refl;
   many = omega arith;
 }
