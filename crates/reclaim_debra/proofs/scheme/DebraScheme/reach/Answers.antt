@@ -33,7 +33,7 @@ returns-in-Some-clause-reached g c = let s = c.reach_link-link.ensures.step in l
     let to : (link_in s.0).target ≡ Some c.in-Some.target = ap (λ (l : LinkParts). l.target) (sym link) ∙ c.in-Some.is in (
       holds_there g.S.Shape.facts c.args.pass.now c.reach_link-link.new.pass (origin c.args.from) c.args.place s.0 s.2 began started c.requires.place c.in-Some.target clear to,
       refl,
-      (link_in s.0, clear, to, has_seen g.S.Shape.facts c.args.pass.now c.reach_link-link.new.pass (origin c.args.from) c.args.place s.0 s.2 began started c.requires.place (link_in s.0) refl),
+      (link_in s.0, clear, to, has_seen g.S.Shape.facts c.args.pass.now c.reach_link-link.new.pass (origin c.args.from) c.args.place s.0 s.2 began started c.requires.place),
     )
 
 pub returns-in-None-clause-reached : goal.returns-in-None-clause-reached
@@ -41,7 +41,7 @@ returns-in-None-clause-reached g c = let s = c.reach_link-link.ensures.step in l
     let began = ap (λ x. x.value.me.0) c.reach_link-link.ensures.pass.since in let started = has_started c.args._local.now c.args.pass.now c.requires.inside.inside c.requires.local in
     let clear : mark_bit (link_in s.0) ≡ 0 = ap mark_bit (sym link) ∙ sym (and_mask c.link.inside.flags 1) ∙ c.if-link-ne0.false in
     let to : (link_in s.0).target ≡ None = ap (λ (l : LinkParts). l.target) (sym link) ∙ c.in-None.is in
-    (link_in s.0, clear, to, has_seen g.S.Shape.facts c.args.pass.now c.reach_link-link.new.pass (origin c.args.from) c.args.place s.0 s.2 began started c.requires.place (link_in s.0) refl)
+    (link_in s.0, clear, to, has_seen g.S.Shape.facts c.args.pass.now c.reach_link-link.new.pass (origin c.args.from) c.args.place s.0 s.2 began started c.requires.place)
 
 pub returns-then-link-ne0-clause-keeps : goal.returns-then-link-ne0-clause-keeps
 returns-then-link-ne0-clause-keeps g c = let s = c.reach_link-link.ensures.step in

@@ -1,5 +1,5 @@
 -- What a caller holds and knows once it loaded a link and holds, by that load alone, what the link leads to.
-use Rattle.std.proofs.Common.{◌≡◌, ◌≢◌, ℕ, ◌+◌, ◌<◌, ◌≤◌, List, length, length-append, set, get_or-set_same, get_or-set_other, Bool, true, false, not, nat_lt, cond, eqb, sym, ap, ◌∙◌, subst, refl, arith, Some, None}
+use Rattle.std.proofs.Common.{◌≡◌, ◌≢◌, ℕ, ◌+◌, ◌<◌, ◌≤◌, List, length, length-append, set, get_or-set_same, get_or-set_other, Bool, true, false, not, nat_lt, cond, eqb, sym, ap, ◌∙◌, subst, refl, arith, Option, Some, None}
 use Rattle.std.proofs.lemmas.Bool.{ltb-true}
 use Rattle.atomic_table.proofs.Lists.{set_here, set_else}
 use Rattle.record_memory.specs.declared.books.View.{View}
@@ -11,17 +11,17 @@ use Rattle.row_words.specs.Packing.{link_in}
 use Rattle.record_rule.specs.Facts.{At, mark_bit, Moment, ShapeFacts, CoverFacts}
 use Rattle.record_rule.specs.Guards.{started_if, holding}
 use Rattle.record_rule.specs.Opening.{no_note}
-use Rattle.record_rule.specs.Links.{Origin, target_of, note_in, note_of, IsFound, ReachedLink}
+use Rattle.record_rule.specs.Links.{Origin, target_of, note_in, note_of, ReachedTarget}
 use Rattle.record_rule.proofs.Rebuilt.{starts_itself}
 use Rattle.record_table.specs.declared.passes.Pass.{Pass}
 use Rattle.record_table.specs.Handles.{view, since}
 use Rattle.record_table.specs.Nodes.{HasStarted, HoldsThere, is_first, reach_at}
-use Rattle.reclaim_api.specs.Holds.{HasSeen, KeepsElse}
+use Rattle.reclaim_api.specs.Holds.{HasSeenTarget, KeepsElse}
 use Rattle.reclaim_api.proofs.Keeping.{GoesOnAt, keeps_by}
 
 -- a guard that started before holds no more updates than were seen
-pub started_before : {S R : Type 0} (s : ShapeFacts) (c : CoverFacts) (p q : Pass S R) (o : Origin) (place n : ℕ) → ReachedLink s c (view p) o 3 (reach_at p place) n (view q) → (view p).own.guard.start_updates ≤ length (view q).seen_updates
-started_before s c p q o place n told = let r = told.whole.recent.updates_since in let e = ap (λ (l : List Update). length l) told.whole.seen_updates.1 in let f = length-append (view p).seen_updates told.whole.seen_updates.0 in omega arith
+pub started_before : {S R : Type 0} (s : ShapeFacts) (c : CoverFacts) (p q : Pass S R) (o : Origin) (place n : ℕ) (t : Option RefParts) → ReachedTarget s c (view p) o 3 (reach_at p place) t n (view q) → (view p).own.guard.start_updates ≤ length (view q).seen_updates
+started_before s c p q o place n t told = let r = told.whole.recent.updates_since in let e = ap (λ (l : List Update). length l) told.whole.seen_updates.1 in let f = length-append (view p).seen_updates told.whole.seen_updates.0 in omega arith
 
 -- a guard that starts with a load, or started before it, started later than it began
 pub started_later : {S R : Type 0} (p : Pass S R) → length (since p).own.steps ≤ length (view p).own.steps → (m : Moment) → length (since p).own.steps < (started_if (is_first p) m (view p).own.guard (length (view p).own.steps + 1)).start_step
@@ -35,9 +35,19 @@ started_later p later m = by (is_first p) refl
     by true e = omega (arith, later)
     by false e = ltb-true (length (since p).own.steps) (view p).own.guard.start_step (not_false (nat_lt (length (since p).own.steps) (view p).own.guard.start_step) e)
 
--- `began` is the caller's guard, started with this load or before
-module _ (s : ShapeFacts) (c : CoverFacts) {S R : Type 0} (p q : Pass S R) (o : Origin) (place n : ℕ) (told : ReachedLink s c (view p) o 3 (reach_at p place) n (view q)) (same : since q ≡ since p)
-    (began : Guard) (guard_is : (view q).own.guard ≡ holding began place (target_of (link_in n))) (started : length (since p).own.steps < began.start_step) (seen_since : began.start_updates ≤ length (view q).seen_updates)
+-- where its guard starts with a load, that is no later than with this one
+pub start_seen : {S R : Type 0} (s : ShapeFacts) (c : CoverFacts) (p q : Pass S R) (o : Origin) (place n : ℕ) (t : Option RefParts) → ReachedTarget s c (view p) o 3 (reach_at p place) t n (view q) → (b : Bool) (epoch taken_out step : ℕ)
+    → (started_if b (record { epoch = epoch; taken_out = taken_out; updates = length (view q).seen_updates }) (view p).own.guard step).start_updates ≤ length (view q).seen_updates
+start_seen s c p q o place n t told true epoch taken_out step = omega arith
+start_seen s c p q o place n t told false epoch taken_out step = started_before s c p q o place n t told
+
+-- a link that leads somewhere from a node without a mark
+pub unmarked_target : (l : LinkParts) (r : RefParts) → mark_bit l ≡ 0 → l.target ≡ Some r → target_of l ≡ Some r
+unmarked_target l r clear to = ap (λ (b : ℕ). cond (eqb b 1) None l.target) clear ∙ to
+
+-- `began` is the caller's guard, started with this load or before, by which it reached t
+module _ (s : ShapeFacts) (c : CoverFacts) {S R : Type 0} (p q : Pass S R) (o : Origin) (place n : ℕ) (t : Option RefParts) (told : ReachedTarget s c (view p) o 3 (reach_at p place) t n (view q)) (same : since q ≡ since p)
+    (began : Guard) (guard_is : (view q).own.guard ≡ holding began place t) (started : length (since p).own.steps < began.start_step) (seen_since : began.start_updates ≤ length (view q).seen_updates)
     (many : length began.holds ≡ c.places) (small : place < c.places) (goes : HasStarted p → began ≡ (view p).own.guard) where
   notes_are : (view q).own.notes ≡ set (view p).own.notes place (note_of s told.target (length (view q).seen_updates))
   notes_are = ap (λ (v : View). v.own.notes) told.view
@@ -47,7 +57,7 @@ module _ (s : ShapeFacts) (c : CoverFacts) {S R : Type 0} (p q : Pass S R) (o : 
   has_started = subst (λ (g : Guard). length (since q).own.steps < g.start_step) (sym guard_is) (subst (λ (v : View). length v.own.steps < began.start_step) (sym same) started)
 
   -- what was seen
-  pub has_seen : (link : LinkParts) → link_in n ≡ link → HasSeen s place o p q link
+  pub has_seen : (link : LinkParts) → link_in n ≡ link → HasSeenTarget s place o p q t link
   has_seen link e = record {
     word = n;
     link_is = e;
@@ -55,7 +65,7 @@ module _ (s : ShapeFacts) (c : CoverFacts) {S R : Type 0} (p q : Pass S R) (o : 
     taken_out = (view q).seen_taken_out;
     whole = told.whole;
     target = told.target;
-    found = subst (λ (l : LinkParts). IsFound (target_of l) told.target) e told.found;
+    found = told.found;
     at_load = view p;
     setup = refl;
     near = refl;
@@ -67,17 +77,13 @@ module _ (s : ShapeFacts) (c : CoverFacts) {S R : Type 0} (p q : Pass S R) (o : 
     since_start = subst (λ (g : Guard). g.start_updates ≤ length (view q).seen_updates) (sym guard_is) seen_since;
   }
 
-  module _ (r : RefParts) (clear : mark_bit (link_in n) ≡ 0) (to : (link_in n).target ≡ Some r) where
-    leads : target_of (link_in n) ≡ Some r
-    leads = ap (λ (b : ℕ). cond (eqb b 1) None (link_in n).target) clear ∙ to
-
-    -- it is held there
-    pub holds_there : HoldsThere q (record { place = place; target = r })
-    holds_there = record {
-      started = has_started;
-      within = let w = told.within r leads in subst (λ (v : View). r.index ≤ v.setup.records) (sym told.view) w;
-      holds = subst (λ (g : Guard). At g.holds place (Some r)) (sym (guard_is ∙ ap (λ t. holding began place t) leads)) (set_here began.holds place (Some r) (omega arith));
-    }
+  -- it is held there
+  pub holds_there : (r : RefParts) → t ≡ Some r → HoldsThere q (record { place = place; target = r })
+  holds_there r leads = record {
+    started = has_started;
+    within = let w = told.within r leads in subst (λ (v : View). r.index ≤ v.setup.records) (sym told.view) w;
+    holds = subst (λ (g : Guard). At g.holds place (Some r)) (sym (guard_is ∙ ap (λ z. holding began place z) leads)) (set_here began.holds place (Some r) (omega arith));
+  }
 
   -- what is held and known elsewhere stays
   pub keeps_else : KeepsElse place p q
@@ -90,12 +96,12 @@ module _ (s : ShapeFacts) (c : CoverFacts) {S R : Type 0} (p q : Pass S R) (o : 
       note_else : (other : ℕ) → other ≢ place → note_in (set (view p).own.notes place (note_of s told.target (length (view q).seen_updates))) other ≡ note_in (view p).own.notes other
       note_else other ne = get_or-set_other (view p).own.notes place other (note_of s told.target (length (view q).seen_updates)) no_note ne
 
-      guard_else : HasStarted p → (view q).own.guard ≡ holding (view p).own.guard place (target_of (link_in n))
-      guard_else h = guard_is ∙ ap (λ (g : Guard). holding g place (target_of (link_in n))) (goes h)
+      guard_else : HasStarted p → (view q).own.guard ≡ holding (view p).own.guard place t
+      guard_else h = guard_is ∙ ap (λ (g : Guard). holding g place t) (goes h)
 
       goes_on : HasStarted p → GoesOnAt (λ other. other ≢ place) (view p).own.guard (view q).own.guard
       goes_on h = let e = guard_else h in record {
         step = ap (λ (g : Guard). g.start_step) e;
         updates = ap (λ (g : Guard). g.start_updates) e;
-        holds = λ other r ne at. subst (λ (g : Guard). At g.holds other (Some r)) (sym e) (set_else (view p).own.guard.holds place other (target_of (link_in n)) ne ∙ at);
+        holds = λ other r ne at. subst (λ (g : Guard). At g.holds other (Some r)) (sym e) (set_else (view p).own.guard.holds place other t ne ∙ at);
       }
