@@ -1,5 +1,5 @@
 -- The reclaimer that frees nothing covers what links of marked records lead to.
-use Rattle.std.proofs.Common.{refl, arith}
+use Rattle.std.proofs.Common.{◌≡◌, true, false, refl, arith}
 use Rattle.record_rule.specs.Frozen.{FrozenLaws}
 use Rattle.cover_facts.specs.Keeping.{none}
 use Rattle.cover_facts.proofs.There.{there_sooner}
@@ -11,3 +11,7 @@ none_frozen = record {
   holds = λ m g q t. refl;
   many = omega arith;
 }
+
+-- its guards start with loads of links
+pub none_begins : {A : Type 0} → none.begins_loading ≡ false → A
+none_begins e = let off : true ≡ false = e in let no_such : ⊥ = cc in absurd no_such
