@@ -45,3 +45,13 @@ module _ (x : SchemeInput) (i : ℕ) where
 
   pub retired_stays : (d generation b n stamp r : ℕ) → At x.cells i (unretired d generation b n) → (cell : SchemeCell) (t : RefParts) (k : ℕ) → At x.cells i cell → IsThereAs cell t.generation k → IsThereAs (limbo d generation b n stamp r) t.generation k
   retired_stays d generation b n stamp r at cell t k here there = subst (λ (c : SchemeCell). IsThereAs c t.generation k) (one_at x.cells i cell (unretired d generation b n) here at) there
+
+-- what was taken out at a number or later was so at an earlier one or later
+as_sooner : (cell : SchemeCell) (generation k start : ℕ) → start ≤ k → IsThereAs cell generation k → IsThereAs cell generation start
+as_sooner (reachable e b) generation k start le there = there
+as_sooner (unretired d e b n) generation k start le there = (there.0, (let z = there.1 in omega arith))
+as_sooner (limbo d e b n stamp r) generation k start le there = (there.0, (let z = there.1 in omega arith))
+as_sooner cell generation k start le there = absurd there
+
+pub there_sooner : (x : SchemeInput) (t : RefParts) (k start : ℕ) → start ≤ k → IsThere x t k → IsThere x t start
+there_sooner x t k start le there = (there.0, there.1, there.2, as_sooner there.0 t.generation k start le there.3)

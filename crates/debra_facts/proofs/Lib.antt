@@ -5,3 +5,4 @@ pub mod Stores
 pub mod Lives
 pub mod Frees
 pub mod DebraLaws
+pub mod Frozen

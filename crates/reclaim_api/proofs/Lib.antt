@@ -9,7 +9,8 @@ pub mod Bagged
 pub mod Retiring
 pub mod Putting
 pub mod Freeings
-pub mod Reached
+pub mod Reaching
+pub mod FollowedLinks
 pub mod Sifted
 pub mod Rows
 pub mod Words

@@ -45,16 +45,16 @@ module _ {S R : Type 0} where
   abbrev pub KeepsButLink : Origin → Pass S R → Pass S R → Type 0
   KeepsButLink o p q = KeepsSome (λ place. Unit {0}) (λ place f. (f ≢ 0) ⊎ IsElsewhere o place) p q
 
-  -- The last load of the link saw this, and what is known of the place is a note of its target
-  pub record HasSeen (s : ShapeFacts) (place : ℕ) (o : Origin) (p q : Pass S R) (link : LinkParts) : Type 0 where
+  -- The last load of the link saw this, and what is known of the place is a note of t, which the link led to, if anything
+  pub record HasSeenTarget (s : ShapeFacts) (place : ℕ) (o : Origin) (p q : Pass S R) (t : Option RefParts) (link : LinkParts) : Type 0 where
     pub word : ℕ
     pub link_is : link_in word ≡ link
     pub updates : List Update
     pub taken_out : List RefParts
     pub whole : AreWhole (view p) updates taken_out
     pub target : Option (List ℕ)
-    -- which was found there, where there is one and the node has no mark
-    pub found : IsFound (target_of link) target
+    -- which was found there
+    pub found : IsFound t target
     -- as the pass knew the node at that load: a reclaimer may load the link twice, and its guard may start with the first of the loads
     pub at_load : View
     pub setup : at_load.setup ≡ (view p).setup
@@ -67,6 +67,10 @@ module _ {S R : Type 0} where
     -- the guard has started, no later than with this load
     pub started : HasStarted q
     pub since_start : (view q).own.guard.start_updates ≤ length updates
+
+  -- of the link's target, unless the node has a mark
+  abbrev pub HasSeen : ShapeFacts → ℕ → Origin → Pass S R → Pass S R → LinkParts → Type 0
+  HasSeen s place o p q link = HasSeenTarget s place o p q (target_of link) link
 
   -- it holds nothing at this place
   abbrev pub HoldsNothing : ℕ → Pass S R → Type 0

@@ -3,6 +3,7 @@ pub mod Chained
 pub mod Frames
 pub mod Guarding
 pub mod Holds
+pub mod Following
 pub mod LinkLoads
 pub mod Locals
 pub mod Owned

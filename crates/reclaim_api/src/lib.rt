@@ -8,9 +8,11 @@
 #![tactic(auto)]
 
 mod chains;
+mod following;
 mod holding;
 mod scheme;
 
 pub use chains::put_first;
+pub use following::{Follows, Reached, follow};
 pub use holding::Holding;
 pub use scheme::{NONE_FREED, Scheme};

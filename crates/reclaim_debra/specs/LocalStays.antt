@@ -1,8 +1,10 @@
 -- A local part depends on the caller's guard and on its records in limbo alone, so not on how many records became its own.
-use Rattle.std.proofs.Common.{◌≡◌, ◌<◌, ℕ, length, Bool, true, false, sym, refl, ap, ◌∙◌, subst}
+use Rattle.std.proofs.Common.{◌≡◌, ◌<◌, ℕ, length, Bool, true, false, Option, sym, refl, ap, ◌∙◌, subst}
 use Rattle.record_memory.specs.declared.books.Guard.{Guard}
 use Rattle.record_memory.specs.declared.books.Setup.{Setup}
 use Rattle.record_memory.specs.declared.books.View.{View}
+use Rattle.row_words.specs.Refs.{RefParts}
+use Rattle.reclaim_api.specs.Following.{holds_at}
 use Rattle.reclaim_api.specs.Frames.{SamePart}
 use Rattle.reclaim_api.specs.Locals.{born}
 use Rattle.reclaim_api.proofs.Kept.{limbo_away}
@@ -31,4 +33,11 @@ pub local_born : (l : Bags) (inside : Bool) (s v : View) → IsLocal l inside s 
 local_born l inside s v h = record {
   bags = bags_stay l v (born v) l.place refl (λ i x known is. known) (λ t. refl) refl h.bags.place h.bags;
   guarded = guarded_same inside s v (born v) refl refl refl h.guarded;
+}
+
+-- nor does what its guard holds
+pub local_holds : (l : Bags) (s v : View) (place : ℕ) (t : Option RefParts) → IsLocal l true s v → IsLocal l true s (holds_at v place t)
+local_holds l s v place t h = record {
+  bags = bags_stay l v (holds_at v place t) l.place refl (λ i x known is. known) (λ count. refl) refl h.bags.place h.bags;
+  guarded = record { active = h.guarded.active; started = h.guarded.started; counted = h.guarded.counted };
 }

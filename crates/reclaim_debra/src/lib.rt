@@ -12,7 +12,7 @@ mod entering;
 mod scheme;
 
 pub use bags::Bags;
-use record_table::Cover;
+use record_table::{Cover, CoversFrozen};
 use set_model::ReclaimerName;
 
 /// The reclaimer by epochs that a caller announces when it enters and leaves.
@@ -33,4 +33,10 @@ impl Cover for Debra {
     ghost laws = { debra_laws };
 
     ghost named = { refl };
+}
+
+impl CoversFrozen for Debra {
+    ghost use Rattle.debra_facts.proofs.Frozen.{debra_frozen};
+
+    ghost frozen = { debra_frozen };
 }

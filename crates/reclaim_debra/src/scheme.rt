@@ -6,11 +6,11 @@ ghost use Rattle.reclaim_api.proofs.Kept.{same_adds};
 ghost use Rattle.reclaim_debra.specs.LocalParts.{IsLocal};
 ghost use Rattle.reclaim_debra.specs.Running.{Enters, Leaves, Bears, PutsAway};
 ghost use Rattle.reclaim_debra.specs.Adding.{enters_more};
-ghost use Rattle.reclaim_debra.specs.LocalStays.{local_same};
+ghost use Rattle.reclaim_debra.specs.LocalStays.{local_same, local_holds};
 
 use crate::entering::{announce, read_epoch, scan, store_own};
 use crate::{Bags, Debra};
-use reclaim_api::{Holding, NONE_FREED, Scheme, put_first};
+use reclaim_api::{Follows, Holding, NONE_FREED, Scheme, put_first};
 use record_table::{Held, Node, Pass, Shape, Table, TakenOut};
 use row_words::{Chain, Freed, MARK};
 
@@ -116,4 +116,12 @@ impl Scheme for Debra {
     ghost placed = { refl };
 
     ghost enough = { debra_laws.enough };
+}
+
+impl Follows for Debra {
+    ghost may_follow = { λ l s v q h small. (h.guarded.active, small) };
+
+    ghost has_started = { λ l s v h off. h.guarded.started };
+
+    ghost local_holds = { local_holds };
 }

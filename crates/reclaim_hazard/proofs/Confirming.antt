@@ -27,7 +27,7 @@ use Rattle.hazard_facts.proofs.Reaching.{named_is, has_reached}
 use Rattle.reclaim_api.specs.declared.holding.Holding.{Holding}
 use Rattle.reclaim_api.specs.declared.holding.Holding.TheVariants.{Null, Held, Marked, Moved}
 use Rattle.reclaim_api.specs.Holds.{IsElsewhere, HasSeen, HoldsNothing, HasReached}
-use Rattle.reclaim_api.proofs.Reached.{marked_none, holds_nothing}
+use Rattle.reclaim_api.proofs.Reaching.{marked_none, holds_nothing}
 use Rattle.reclaim_api.specs.StepForms.{word_store}
 use Rattle.reclaim_hazard.specs.Running.{ConfirmsWith, Confirms}
 use Rattle.reclaim_hazard.specs.Steps.{stored_own, HasLoadedAgain, AnswersBy}
@@ -120,7 +120,7 @@ module _ (s : ShapeFacts) {S R : Type 0} (p then q : Pass S R) (o : Origin) (pla
       confirmed_reached four (Marked m) a = (
         ap mark_bit a.1 ∙ a.0,
         seen m (sym h.again_is ∙ sym a.1),
-        holds_nothing s hazard q at_load o (record { place = place; first = false; step = length (view then).own.steps + 2 }) h.word h.told (λ time t. has_reached time at_load.own.guard _ t low) (marked_none h.word (sym (ap mark_bit h.again_is) ∙ a.0)),
+        holds_nothing s hazard q at_load o (record { place = place; first = false; step = length (view then).own.steps + 2 }) _ h.word h.told (λ time t. has_reached time at_load.own.guard _ t low) (marked_none h.word (sym (ap mark_bit h.again_is) ∙ a.0)),
       )
       confirmed_reached four (Moved m) a = moved_nothing four (sym (ap mark_bit h.again_is) ∙ a.0) (sym (ap (λ (l : LinkParts). l.target) first_is) ∙ leads_to) (λ e. a.1 (ap (λ (l : LinkParts). l.target) h.again_is ∙ e))
 

@@ -17,7 +17,7 @@ use Rattle.record_table.proofs.Started.{later_load}
 use Rattle.hazard_facts.specs.Pointers.{named_by, hazard}
 use Rattle.reclaim_api.specs.Holds.{KeepsElse}
 use Rattle.reclaim_api.proofs.Keeping.{GoesOnAt, keeps_by}
-use Rattle.reclaim_api.proofs.Reached.{started_before, started_later}
+use Rattle.reclaim_api.proofs.Reaching.{started_before, started_later}
 use Rattle.reclaim_api.proofs.Kept.{kept_on}
 
 module _ (s : ShapeFacts) {S R : Type 0} (p q : Pass S R) (o : Origin) (place n : ℕ) (told : ReachedLink s hazard (view p) o 3 (reach_at p place) n (view q)) (same : since q ≡ since p)
@@ -44,7 +44,7 @@ module _ (s : ShapeFacts) {S R : Type 0} (p q : Pass S R) (o : Origin) (place n 
     where
       by : (b : Bool) → (started_if b time (view p).own.guard step).start_updates ≤ length (view q).seen_updates
       by true = omega arith
-      by false = started_before s hazard p q o place n told
+      by false = started_before s hazard p q o place n (target_of (link_in n)) told
 
   -- its words are what they were
   pub words_still : (view q).own.guard.announced ≡ (view p).own.guard.announced

@@ -22,7 +22,7 @@ use Rattle.ibr_facts.specs.Keeping.{ibr, ibr_reached, ibr_read}
 use Rattle.ibr_facts.proofs.Reaching.{reached_so}
 use Rattle.reclaim_api.specs.Holds.{HasSeen, HoldsNothing, KeepsElse}
 use Rattle.reclaim_api.proofs.Keeping.{keeps_by}
-use Rattle.reclaim_api.proofs.Reached.{started_before}
+use Rattle.reclaim_api.proofs.Reaching.{started_before}
 use Rattle.reclaim_ibr.specs.Steps.{epoch_loaded, HasLoadedEpoch}
 use Rattle.reclaim_ibr.proofs.Confirmed.{confirmed_rest, reached_else, read_else}
 
@@ -60,7 +60,7 @@ module _ (s : ShapeFacts) {S R : Type 0} (p then : Pass S R) (o : Origin) (place
     seen = seen ∙ ap (λ (v : View). v.own.updates_seen) told.view;
     note = ap (λ (l : List Note). note_in l place) (notes ∙ notes_are) ∙ get_or-set_same (view p).own.notes place (note_of s told.target (length (view then).seen_updates)) no_note (let m = told.noted in omega arith);
     started = subst (λ (x : View × ℕ). length x.0.own.steps < x.1) (λ k. (sym (goes_on ∙ same) k, sym step k)) started;
-    since_start = let a = started_before s ibr p then o place n told in omega arith;
+    since_start = let a = started_before s ibr p then o place n (target_of (link_in n)) told in omega arith;
   }
 
   -- as it does after the one load

@@ -1,5 +1,5 @@
 -- What a caller without reclamation holds once it loaded a link: its guard started with its first load or before.
-use Rattle.std.proofs.Common.{◌≡◌, ℕ, ◌+◌, ◌<◌, ◌≤◌, length, Bool, true, false, ap, ◌∙◌, arith, Some, None}
+use Rattle.std.proofs.Common.{◌≡◌, ℕ, ◌+◌, ◌<◌, ◌≤◌, length, Bool, true, false, refl, ap, ◌∙◌, subst, arith, Some, None}
 use Rattle.record_memory.specs.declared.books.View.{View}
 use Rattle.record_memory.specs.declared.books.Guard.{Guard}
 use Rattle.row_words.specs.Refs.{RefParts, LinkParts}
@@ -12,8 +12,8 @@ use Rattle.record_table.specs.Handles.{view, since}
 use Rattle.record_table.specs.Nodes.{HasStarted, HoldsThere, is_first, reach_at}
 use Rattle.record_table.proofs.Started.{later_load}
 use Rattle.reclaim_api.specs.Holds.{HasSeen, HoldsNothing, KeepsElse}
-use Rattle.reclaim_api.proofs.Reached.{started_before, started_later}
-use Rattle.reclaim_api.proofs.Reached as load
+use Rattle.reclaim_api.proofs.Reaching.{start_seen, unmarked_target, started_later}
+use Rattle.reclaim_api.proofs.Reaching as load
 use Rattle.cover_facts.specs.Keeping.{none}
 use Rattle.cover_facts.proofs.KeepingLaws.{many_then, none_laws}
 
@@ -28,11 +28,6 @@ module _ (s : ShapeFacts) {S R : Type 0} (p q : Pass S R) (o : Origin) (place n 
   abbrev began : Guard
   began = started_if (is_first p) time (view p).own.guard step
 
-  -- no later than with it
-  start_seen : (b : Bool) → (started_if b time (view p).own.guard step).start_updates ≤ length (view q).seen_updates
-  start_seen true = omega arith
-  start_seen false = started_before s none p q o place n told
-
   goes : HasStarted p → began ≡ (view p).own.guard
   goes h = ap (λ (b : Bool). started_if b time (view p).own.guard step) (later_load p h)
 
@@ -42,18 +37,21 @@ module _ (s : ShapeFacts) {S R : Type 0} (p q : Pass S R) (o : Origin) (place n 
   guard_is : (view q).own.guard ≡ holding began place (target_of (link_in n))
   guard_is = ap (λ (v : View). v.own.guard) told.view
 
+  abbrev seen_by : began.start_updates ≤ length (view q).seen_updates
+  seen_by = start_seen s none p q o place n (target_of (link_in n)) told (is_first p) told.epoch (length (view q).seen_taken_out) step
+
   -- what was seen
   pub has_seen : (link : LinkParts) → link_in n ≡ link → HasSeen s place o p q link
-  has_seen = load.has_seen s none p q o place n told same began guard_is (started_later p later time) (start_seen (is_first p)) many small goes
+  has_seen link e = subst (HasSeen s place o p q) e (load.has_seen s none p q o place n (target_of (link_in n)) told same began guard_is (started_later p later time) seen_by many small goes (link_in n) refl)
 
   -- it is held there
   pub holds_there : (r : RefParts) → mark_bit (link_in n) ≡ 0 → (link_in n).target ≡ Some r → HoldsThere q (record { place = place; target = r })
-  holds_there = load.holds_there s none p q o place n told same began guard_is (started_later p later time) (start_seen (is_first p)) many small goes
+  holds_there r clear to = load.holds_there s none p q o place n (target_of (link_in n)) told same began guard_is (started_later p later time) seen_by many small goes r (unmarked_target (link_in n) r clear to)
 
   -- or nothing is
   pub nothing_there : target_of (link_in n) ≡ None → HoldsNothing place q
-  nothing_there = load.holds_nothing s none q (view p) o (reach_at p place) n told (λ m t. none_laws.reached m (view p).own.guard (reach_at p place) t small)
+  nothing_there = load.holds_nothing s none q (view p) o (reach_at p place) (target_of (link_in n)) n told (λ m t. none_laws.reached m (view p).own.guard (reach_at p place) t small)
 
   -- what is held and known elsewhere stays
   pub keeps_else : KeepsElse place p q
-  keeps_else = load.keeps_else s none p q o place n told same began guard_is (started_later p later time) (start_seen (is_first p)) many small goes
+  keeps_else = load.keeps_else s none p q o place n (target_of (link_in n)) told same began guard_is (started_later p later time) seen_by many small goes

@@ -3,7 +3,7 @@
 
 mod scheme;
 
-use record_table::Cover;
+use record_table::{Cover, CoversFrozen};
 use set_model::ReclaimerName;
 
 /// The reclaimer that frees nothing. A guard starts with its first load of a link, and needs no
@@ -25,4 +25,10 @@ impl Cover for NoReclaim {
     ghost laws = { none_laws };
 
     ghost named = { refl };
+}
+
+impl CoversFrozen for NoReclaim {
+    ghost use Rattle.cover_facts.proofs.Frozen.{none_frozen};
+
+    ghost frozen = { none_frozen };
 }

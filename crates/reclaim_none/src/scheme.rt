@@ -1,13 +1,14 @@
 // The functions of no reclamation: a try to hold is one load, and retiring one store.
 ghost use Rattle.std.specs.Prelude.{◌≡◌, refl, ◌++◌, []};
 ghost use Rattle.record_memory.specs.declared.books.Book.{Book};
+ghost use Rattle.cover_facts.proofs.Frozen.{none_begins};
 ghost use Rattle.cover_facts.proofs.KeepingLaws.{none_laws};
 ghost use Rattle.reclaim_api.proofs.Kept.{same_adds};
 ghost use Rattle.reclaim_api.specs.LinkLoads.{ReachesByLoad};
 ghost use Rattle.reclaim_none.specs.Running.{Enters, Leaves, Bears, PutsAway};
 
 use crate::NoReclaim;
-use reclaim_api::{Holding, NONE_FREED, Scheme};
+use reclaim_api::{Follows, Holding, NONE_FREED, Scheme};
 use record_table::{Held, Node, Pass, Shape, Table, TakenOut};
 use row_words::{Chain, Freed, MARK};
 
@@ -102,4 +103,12 @@ impl Scheme for NoReclaim {
     ghost placed = { refl };
 
     ghost enough = { none_laws.enough };
+}
+
+impl Follows for NoReclaim {
+    ghost may_follow = { λ l s v q h small. small };
+
+    ghost has_started = { λ l s v h off. none_begins off };
+
+    ghost local_holds = { λ l s v place t h. h };
 }

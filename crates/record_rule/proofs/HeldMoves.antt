@@ -11,7 +11,7 @@ use Rattle.record_rule.specs.Inputs.{ShapeCell, hidden, root, linked, out, Start
 use Rattle.record_rule.specs.Facts.{At, with_link, at_held, ShapeFacts, FitsNote, FitsNear, is_linked, is_out}
 use Rattle.record_rule.specs.Held.{HoldFits, while_linked, while_out, WaitFits, HeldFits}
 use Rattle.record_rule.proofs.Waiting.{waits_reached, waits_linked, waits_out, waits_set}
-use Rattle.record_rule.specs.Laws.{recelled, HoldsOnly, IsNewGeneration}
+use Rattle.record_rule.specs.Laws.{LeadsTo, recelled, HoldsOnly, IsNewGeneration}
 use Rattle.record_rule.proofs.Lists.{below_at, one_at}
 
 -- the generation, body and marked position of a record that can be reached, in the cell of a root
@@ -32,6 +32,15 @@ has_recelled (root e b k) generation m m' body body' h = let same : e ≡ genera
 has_recelled (linked e b k) generation m m' body body' h = let same : e ≡ generation = cc in ap (λ (z : ℕ). root z body' m') same
 has_recelled (out e b k n) generation m m' body body' h = let same : e ≡ generation = cc in ap (λ (z : ℕ). root z body' m') same
 
+-- the record is there: linked, or taken out at this number or later
+pub record IsThereFrom (cells : List ShapeCell) (taken_out : List RefParts) (start : ℕ) (r : RefParts) : Type 0 where
+  pub body : List ℕ
+  pub marked : ℕ
+  pub some_index : 0 < r.index
+  pub at : At cells (r.index - 1) (linked r.generation body marked) ⊎ ((n : ℕ) × (start ≤ n) × At cells (r.index - 1) (out r.generation body marked n))
+  -- so none is linked anew at its generation
+  pub was_linked : LeadsTo cells r ⊎ ((k : ℕ) × (start ≤ k) × At taken_out k r)
+
 module _ (s : ShapeFacts) where
   -- the record that a caller holds, with what it knows of it
   pub record IsNode (cells : List ShapeCell) (start : ℕ) (r : RefParts) (note : Note) : Type 0 where
@@ -47,13 +56,10 @@ module _ (s : ShapeFacts) where
     pub behind : (k e m : ℕ) (b : List ℕ) → cell ≡ out e b m k → start ≤ k
     pub has_body : HasBody cell generation body marked
 
-  -- the linked record that a link led to, of which this note is made
-  pub record IsSeen (cells : List ShapeCell) (note : Note) (u : RefParts) : Type 0 where
-    pub body : List ℕ
-    pub marked : ℕ
-    pub some_index : 0 < u.index
-    pub at : At cells (u.index - 1) (linked u.generation body marked)
-    pub fits : FitsNote s note body
+  -- the record that a link led to, of which this note is made
+  pub record IsSeen (cells : List ShapeCell) (taken_out : List RefParts) (start : ℕ) (note : Note) (u : RefParts) : Type 0 where
+    pub is : IsThereFrom cells taken_out start u
+    pub fits : FitsNote s note is.body
     pub key_word : ℕ
     pub keyed : At note.words 1 (Some key_word)
 
@@ -133,13 +139,13 @@ module _ (s : ShapeFacts) where
   reached_start old new taken_out le h = ⊎_elim (λ e. omega arith) (λ e. omega arith) h
 
   -- what a link led to is held
-  hold_seen : (cells : List ShapeCell) (start : ℕ) (note : Note) (u : RefParts) → IsSeen cells note u → HoldFits s cells start u note
-  hold_seen cells start note u x = let i : ℕ = u.index - 1 in let pos : 0 < u.index = x.some_index in let e : i + 1 ≡ u.index = omega arith in
-      subst (λ (k : ℕ). HoldFits s cells start (refer k u.generation) note) e (while_linked i u.generation x.marked x.body note x.at x.fits)
+  hold_seen : (cells : List ShapeCell) (taken_out : List RefParts) (start : ℕ) (note : Note) (u : RefParts) → IsSeen cells taken_out start note u → HoldFits s cells start u note
+  hold_seen cells taken_out start note u x = let i : ℕ = u.index - 1 in let pos : 0 < u.index = x.is.some_index in let e : i + 1 ≡ u.index = omega arith in subst (λ (k : ℕ). HoldFits s cells start (refer k u.generation) note) e
+      (⊎_elim (λ y. while_linked i u.generation x.is.marked x.is.body note y x.fits) (λ y. while_out i u.generation x.is.marked y.0 x.is.body note y.2 y.1 x.fits) x.is.at)
 
   -- or waits
-  wait_seen : (cells : List ShapeCell) (taken_out : List RefParts) (start : ℕ) (note : Note) (u : RefParts) → IsSeen cells note u → note.kept ≡ [] → WaitFits s cells taken_out start u note
-  wait_seen cells taken_out start note u x bare = waits_reached s cells taken_out start u note (x.body, x.marked, x.some_index, x.at) x.fits (x.key_word, x.keyed) bare
+  wait_seen : (cells : List ShapeCell) (taken_out : List RefParts) (start : ℕ) (note : Note) (u : RefParts) → IsSeen cells taken_out start note u → note.kept ≡ [] → WaitFits s cells taken_out start u note
+  wait_seen cells taken_out start note u x bare = waits_reached s cells taken_out start u note x.is.body x.is.some_index x.is.was_linked (x.is.marked, ⊎_elim inl (λ y. inr (y.0, y.2)) x.is.at) x.fits (x.key_word, x.keyed) bare
 
   -- a hold that fits is of a record that is linked or was taken out
   node_of : (cells : List ShapeCell) (start : ℕ) (r : RefParts) (note : Note) → HoldFits s cells start r note → IsNode cells start r note
@@ -209,9 +215,9 @@ module _ (s : ShapeFacts) where
         (wait_relinked f generation body l is_link unsettled settled cells i g.start_taken_out m m' taken_out cell e has at)
 
     module _ (cells : List ShapeCell) (taken_out : List RefParts) (g g' : Guard) (notes : List Note) (p : ℕ) (t : Option RefParts) (note : Note) (h : HeldFits s places cells taken_out g notes) (only : HoldsOnly g' g p t)
-        (here : (r : RefParts) → At g'.holds p (Some r) → t ≡ Some r) (seen : (u : RefParts) → t ≡ Some u → IsSeen cells note u) where
+        (here : (r : RefParts) → At g'.holds p (Some r) → t ≡ Some r) (seen : (u : RefParts) → t ≡ Some u → IsSeen cells taken_out g'.start_taken_out note u) where
       -- the new hold
-      seen_at : (q : ℕ) (r : RefParts) → At g'.holds q (Some r) → q ≡ p → IsSeen cells note r
+      seen_at : (q : ℕ) (r : RefParts) → At g'.holds q (Some r) → q ≡ p → IsSeen cells taken_out g'.start_taken_out note r
       seen_at q r hold e = seen r (here r (subst (λ (k : ℕ). At g'.holds k (Some r)) e hold))
 
       -- any other hold was there before
@@ -225,7 +231,7 @@ module _ (s : ShapeFacts) where
         many = many ∙ h.many;
         noted = length-set notes p note ∙ h.noted;
         start = reached_start g.start_taken_out g'.start_taken_out (length taken_out) h.start start;
-        holds = λ q r n hold there. ⊎_elim (λ a. subst (HoldFits s cells g'.start_taken_out r) a.1 (hold_seen cells g'.start_taken_out note r (seen_at q r hold a.0)))
+        holds = λ q r n hold there. ⊎_elim (λ a. subst (HoldFits s cells g'.start_taken_out r) a.1 (hold_seen cells taken_out g'.start_taken_out note r (seen_at q r hold a.0)))
             (λ a. let was = was_held q r hold a.0 in subst (λ (k : ℕ). HoldFits s cells k r n) (ap (λ (z : Start). z.taken_out) was.1) (h.holds q r n was.0 a.1)) (at_set notes p q note n there);
         keyed = λ q r n hold there. ⊎_elim (λ a. let x = seen_at q r hold a.0 in (x.key_word, ap (λ (z : Note). get_elem? z.words 1) (sym a.1) ∙ x.keyed))
             (λ a. h.keyed q r n (was_held q r hold a.0).0 a.1) (at_set notes p q note n there);

@@ -31,6 +31,7 @@ pub mod Outlines
 pub mod ChainRows
 pub mod LinkLoads
 pub mod Reaches
+pub mod FrozenLoads
 pub mod Retires
 pub mod Unlinks
 pub mod Exchanges

@@ -50,7 +50,7 @@ body_had c generation m body Limbo r h = record { generation_is = cc; body_is = 
 body_had c generation m body s r h = let none : ⊥ = cc in absurd none
 
 -- and by where it is
-body_at : (generation m : ℕ) (body : List ℕ) (p : Place) (r : Record) → HasBody (shape_at p r) generation body m → IsBodyOf p r generation body m
+pub body_at : (generation m : ℕ) (body : List ℕ) (p : Place) (r : Record) → HasBody (shape_at p r) generation body m → IsBodyOf p r generation body m
 body_at generation m body Root r h = record { generation_is = cc; body_is = cc; marked_is = cc; seen = tt }
 body_at generation m body Linked r h = record { generation_is = cc; body_is = cc; marked_is = cc; seen = tt }
 body_at generation m body (Of c s) r h = body_had c generation m body s r h

@@ -19,21 +19,21 @@ use Rattle.record_memory.specs.Memory.{memory, address}
 use Rattle.row_words.specs.Refs.{RefParts, LinkParts, refer}
 use Rattle.row_words.specs.Packing.{link_in}
 use Rattle.record_rule.specs.Records.{IsSetup, IsLinkField}
-use Rattle.record_rule.specs.Inputs.{Start, linked, shape_cell, reachable, birth, scheme_at, scheme_cell, guard_of, Outline, shape_input, start_of, trace, scheme_input}
-use Rattle.record_rule.specs.Facts.{of_root, of_held, At, word_in, link_at, mark_bit, HasMark, at_held, ShapeFacts, FitsNote, is_linked, Moment, Reach, CoverFacts}
+use Rattle.record_rule.specs.Inputs.{ShapeCell, Start, linked, out, shape_cell, reachable, birth, scheme_at, scheme_cell, guard_of, Outline, shape_input, start_of, trace, scheme_input}
+use Rattle.record_rule.specs.Facts.{of_root, of_held, At, word_in, link_at, mark_bit, HasMark, at_held, ShapeFacts, FitsNote, FitsNear, is_linked, is_out, Moment, Reach, CoverFacts}
 use Rattle.record_rule.specs.Held.{HeldFits}
 use Rattle.record_rule.specs.Known.{KnownFits}
 use Rattle.record_rule.specs.Opening.{no_note}
-use Rattle.record_rule.specs.Laws.{HoldsOnly, StartsIf, LeadsTo, NodeIs, TargetSeen, there, ShapeLaws, moment, CoverLaws}
+use Rattle.record_rule.specs.Laws.{HoldsOnly, StartsIf, LeadsTo, NodeIs, TargetSeen, there, there_out, ShapeLaws, moment, with_guard, IsSafe, CoverLaws}
 use Rattle.record_rule.specs.World.{IsRecent, Rule}
 use Rattle.record_rule.specs.Kinds.{Lawful}
-use Rattle.record_rule.specs.Links.{roots_kept, Origin, index_of, generation_at, near_of, Holds, node_step, seeing, target_of, settled_word, note_of, IsFound, ReachedLink}
+use Rattle.record_rule.specs.Links.{roots_kept, Origin, index_of, generation_at, near_of, Holds, node_step, seeing, target_of, settled_word, note_of, IsFound, ReachedTarget, ReachedLink}
 use Rattle.record_rule.proofs.Lists.{below_at, map_at, at_replicate}
 use Rattle.record_rule.proofs.Safe.{linked_place, safe}
 use Rattle.record_rule.proofs.Steps.{before, given, book, are_whole, recent_now}
 use Rattle.record_rule.proofs.Recents.{starts_by, recent_reached}
-use Rattle.record_rule.proofs.HeldMoves.{IsSeen, held_reached}
-use Rattle.record_rule.proofs.Nodes.{own_held, node_of, node_with, found_word, found_link, found_own, node_finds}
+use Rattle.record_rule.proofs.HeldMoves.{HasBody, IsThereFrom, IsSeen, held_reached}
+use Rattle.record_rule.proofs.Nodes.{body_at, NodeOf, own_held, node_of, node_with, found_word, found_link, found_own, node_finds}
 use Rattle.record_rule.proofs.LinkLoads.{nothing_seen, own_known, ToldStart, told_same, book_after, rule_after, saw_link}
 
 -- a link that leads to something to hold has no mark
@@ -81,62 +81,75 @@ module _ (shape : ShapeFacts) (cover : CoverFacts) (shaped : ShapeLaws shape) (s
   IsReachable t = (b : ℕ) × (0 < t.index) × At now.schemes (t.index - 1) (reachable t.generation b)
 
   -- as it does where a set sees a linked record
-  linked_reachable : (t : RefParts) → LeadsTo now.shapes t → IsReachable t
+  pub linked_reachable : (t : RefParts) → LeadsTo now.shapes t → IsReachable t
   linked_reachable t x = let r = map_at shape_cell u.records (t.index - 1) (linked t.generation x.0 x.1) x.3 in let p = linked_place t.generation x.1 x.0 r.0.place r.0 r.2 in
       (birth r.0, x.2, at_map scheme_cell u.records (t.index - 1) r.0 r.1 ∙ ap some (ap (λ (z : Place). scheme_at z r.0) p.0 ∙ ap (λ (e : ℕ). reachable e (birth r.0)) p.1))
 
-  -- the key of a linked record is settled
-  key_settled : (t : RefParts) (x : LeadsTo now.shapes t) → shape.settled 4 x.0 ≡ true
-  key_settled t x = let r = map_at shape_cell u.records (t.index - 1) (linked t.generation x.0 x.1) x.3 in let p = linked_place t.generation x.1 x.0 r.0.place r.0 r.2 in
-      let long : length x.0 ≡ 5 = (let e = (u.places.sound (t.index - 1) r.0 r.1).eight in let l = length-drop 3 r.0.row in let same = ap length p.2 in omega arith) in
-      shaped.keys_stand setup (shape_input now) (at_held (refer (t.index - 1 + 1) t.generation) no_note) 4 (link_at x.0 4) u.parts.shape record {
-        index = t.index - 1;
-        cell = linked t.generation x.0 x.1;
-        at = x.3;
-        generation = t.generation;
-        body = x.0;
+  -- the key of a record that a set sees is settled
+  key_seen : (i generation m : ℕ) (body : List ℕ) (cell : ShapeCell) → At now.shapes i cell → HasBody cell generation body m → FitsNear shape now.shapes (at_held (refer (i + 1) generation) no_note) i generation body m → shape.settled 4 body ≡ true
+  key_seen i generation m body cell at has fits = let r = map_at shape_cell u.records i cell at in let b = body_at generation m body r.0.place r.0 (subst (λ (c : ShapeCell). HasBody c generation body m) (sym r.2) has) in
+      let long : length body ≡ 5 = (let e = (u.places.sound i r.0 r.1).eight in let l = length-drop 3 r.0.row in let same = ap length b.body_is in omega arith) in
+      shaped.keys_stand setup (shape_input now) (at_held (refer (i + 1) generation) no_note) 4 (link_at body 4) u.parts.shape record {
+        index = i;
+        cell = cell;
+        at = at;
+        generation = generation;
+        body = body;
         long = long;
-        marked = x.1;
-        fits = is_linked (t.index - 1) t.generation x.1 x.0 no_note x.3 (λ f n e. absurd (nothing_noted 5 f n e));
+        marked = m;
+        fits = fits;
         word = refl;
       }
 
+  -- what is linked, or was taken out at this number or later
+  abbrev pub StandsFrom : ℕ → RefParts → Type 0
+  StandsFrom start t = IsThereFrom now.shapes u.taken_out start t
+
+  -- a linked record is, whatever the number
+  pub linked_from : (start : ℕ) (t : RefParts) → LeadsTo now.shapes t → StandsFrom start t
+  linked_from start t x = record { body = x.0; marked = x.1; some_index = x.2; at = inl x.3; was_linked = inl x }
+
+  -- its key is settled
+  key_settled : (start : ℕ) (t : RefParts) (x : StandsFrom start t) → shape.settled 4 x.body ≡ true
+  key_settled start t x = let i : ℕ = t.index - 1 in ⊎_elim
+      (λ y. key_seen i t.generation x.marked x.body (linked t.generation x.body x.marked) y refl (is_linked i t.generation x.marked x.body no_note y (λ f n e. absurd (nothing_noted 5 f n e))))
+      (λ y. key_seen i t.generation x.marked x.body (out t.generation x.body x.marked y.0) y.2 refl (is_out i t.generation x.marked y.0 x.body no_note y.2 (λ f n e. absurd (nothing_noted 5 f n e)))) x.at
+
   -- so the caller may hold it with what it notes of it
-  linked_seen : (t : RefParts) (x : LeadsTo now.shapes t) → IsSeen shape now.shapes (note_of shape (Some x.0) (length u.updates)) t
-  linked_seen t x = record {
-    body = x.0;
-    marked = x.1;
-    some_index = x.2;
-    at = x.3;
-    fits = note_fits shape x.0 (length u.updates);
-    key_word = word_in x.0 4;
-    keyed = ap (λ (b : Bool). some (cond b (Some (word_in x.0 4)) None)) (key_settled t x);
+  there_seen : (start : ℕ) (t : RefParts) (x : StandsFrom start t) → IsSeen shape now.shapes u.taken_out start (note_of shape (Some x.body) (length u.updates)) t
+  there_seen start t x = record {
+    is = x;
+    fits = note_fits shape x.body (length u.updates);
+    key_word = word_in x.body 4;
+    keyed = ap (λ (b : Bool). some (cond b (Some (word_in x.body 4)) None)) (key_settled start t x);
   }
 
-  -- what a load comes to: the target's body, where the caller may hold the target, as a set and a reclaimer see it
-  record ComesTo (l : LinkParts) (t : Option RefParts) : Type 0 where
-    target : Option (List ℕ)
-    found : IsFound t target
-    seen : TargetSeen shape now.shapes l.target target
-    held : (w : RefParts) → t ≡ Some w → IsSeen shape now.shapes (note_of shape target (length u.updates)) w
-    reachable_is : MatchOption t (Unit {0}) IsReachable
+  -- what a load comes to: the body of what the caller holds then, by a guard that started at this number
+  pub record ComesTo (l : LinkParts) (t : Option RefParts) (start : ℕ) : Type 0 where
+    pub target : Option (List ℕ)
+    pub found : IsFound t target
+    pub seen : TargetSeen shape now.shapes l.target target
+    pub held : (w : RefParts) → t ≡ Some w → IsSeen shape now.shapes u.taken_out start (note_of shape target (length u.updates)) w
 
-  -- it does, since a link that may be followed leads to a linked record
-  comes_to : (l : LinkParts) (t : Option RefParts) → target_of l ≡ t → ((w : RefParts) → ¬ HasMark l → l.target ≡ Some w → LeadsTo now.shapes w) → ComesTo l t
-  comes_to l None is leads = record {
+  -- it does where that is the link's target and stands there
+  pub comes_to : (l : LinkParts) (t : Option RefParts) (start : ℕ) → ((w : RefParts) → t ≡ Some w → (l.target ≡ Some w) × StandsFrom start w) → ComesTo l t start
+  comes_to l None start leads = record {
     target = None;
     found = refl;
     seen = nothing_seen shape now.shapes l.target;
     held = λ w e. let none : ⊥ = cc in absurd none;
-    reachable_is = tt;
   }
-  comes_to l (Some t) is leads = let h = held_target l t is in let x = leads t h.0 h.1 in record {
-    target = Some x.0;
-    found = (x.0, refl);
-    seen = subst (λ (z : Option RefParts). TargetSeen shape now.shapes z (Some x.0)) (sym h.1) (there t x.0 x.1 x.3);
-    held = λ w e. let same : t ≡ w = cc in subst (IsSeen shape now.shapes (note_of shape (Some x.0) (length u.updates))) same (linked_seen t x);
-    reachable_is = linked_reachable t x;
+  comes_to l (Some t) start leads = let h = leads t refl in let x = h.1 in record {
+    target = Some x.body;
+    found = (x.body, refl);
+    seen = subst (λ (z : Option RefParts). TargetSeen shape now.shapes z (Some x.body)) (sym h.0) (⊎_elim (λ y. there t x.body x.marked y) (λ y. there_out t x.body x.marked y.0 y.2) x.at);
+    held = λ w e. let same : t ≡ w = cc in subst (IsSeen shape now.shapes u.taken_out start (note_of shape (Some x.body) (length u.updates))) same (there_seen start t x);
   }
+
+  -- where it is linked a reclaimer sees it so
+  pub leads_reachable : (t : Option RefParts) → ((w : RefParts) → t ≡ Some w → LeadsTo now.shapes w) → MatchOption t (Unit {0}) IsReachable
+  leads_reachable None leads = tt
+  leads_reachable (Some t) leads = linked_reachable t (leads t refl)
 
   module _ (id : ℕ) (v : View) (at : get_elem? s.views id ≡ some v) (present : v.present ≡ true) where
     -- what was kept of what is held still, and nothing of what is new
@@ -160,6 +173,10 @@ module _ (shape : ShapeFacts) (cover : CoverFacts) (shaped : ShapeLaws shape) (s
         subst (ToldStart shape cover setup s u id v at present) same (shaped.begins setup (shape_input now) (trace now) v.own.caller (given shape cover setup s u))
     told_reached false g step start = told_same shape cover setup s u id v at present g (λ k. record { taken_out = start.taken_out k; updates = start.updates k })
 
+-- what is there is one of the records
+there_below : (cells : List ShapeCell) (taken_out : List RefParts) (start : ℕ) (t : RefParts) (x : IsThereFrom cells taken_out start t) → t.index - 1 < length cells
+there_below cells taken_out start t x = ⊎_elim (λ y. below_at cells (t.index - 1) (linked t.generation x.body x.marked) y) (λ y. below_at cells (t.index - 1) (out t.generation x.body x.marked y.0) y.2) x.at
+
 -- a guard started at a step that was made, and when it did where it doesn't start now
 step_by : (b : Bool) (m : Moment) (step bound : ℕ) (g new : Guard) → StartsIf b m step g new → step ≤ bound → g.start_step ≤ bound → new.start_step ≤ bound
 step_by true m step bound g new start now before = let e = start.step_is in omega arith
@@ -169,45 +186,90 @@ taken_by : (b : Bool) (m : Moment) (step : ℕ) (g new : Guard) → StartsIf b m
 taken_by true m step g new start = inr start.taken_out
 taken_by false m step g new start = inl start.taken_out
 
-again_by : (b : Bool) (m : Moment) (step : ℕ) (g new : Guard) → StartsIf b m step g new → b ≡ false → start_of new ≡ start_of g
+pub again_by : (b : Bool) (m : Moment) (step : ℕ) (g new : Guard) → StartsIf b m step g new → b ≡ false → start_of new ≡ start_of g
 again_by true m step g new start e = let none : ⊥ = cc in absurd none
 again_by false m step g new start e = λ k. record { taken_out = start.taken_out k; updates = start.updates k }
 
-module _ (shape : ShapeFacts) (cover : CoverFacts) (shaped : ShapeLaws shape) (covering : CoverLaws cover) (setup : Setup) (is_setup : IsSetup setup) where
+-- a caller loads word f of its node, which lies there, to reach what it leads to
+pub record IsReachStep (cover : CoverFacts) (setup : Setup) (word f : ℕ) (v : View) (o : Origin) (q : Reach) : Type 0 where
+  pub present : v.present ≡ true
+  pub same : v.setup ≡ setup
+  pub word_is : word ≡ address setup.callers (Field (index_of o) f)
+  pub low : 3 ≤ f
+  pub below : f < 8
+  pub field : IsLinkField f
+  pub hold : Holds v o
+  pub may : cover.may_reach v.own.guard q
+  pub step : q.step ≡ length v.own.steps + 1
+
+module _ (shape : ShapeFacts) (cover : CoverFacts) (shaped : ShapeLaws shape) (covering : CoverLaws cover) (setup : Setup) (is_setup : IsSetup setup) (id word f : ℕ) (v : View) (o : Origin) (q : Reach) (a : IsReachStep cover setup word f v o q) where
+  module _ (s : State (Unit {0}) View) (u : Rule shape cover setup s) (at : get_elem? s.views id ≡ some v) where
+    abbrev pub x : Outline
+    x = before shape cover setup s u
+
+    -- the word that it finds
+    abbrev pub k : ℕ
+    k = get_or s.words word 0
+
+    abbrev pub link : LinkParts
+    link = link_in k
+
+    -- its node
+    abbrev pub n : NodeOf shape cover setup is_setup s u id v at a.present o
+    n = node_of shape cover setup is_setup s u id v at a.present o a.hold
+
+    pub found : k ≡ get_or n.node.row f 0
+    found = found_word shape cover setup is_setup s u id v at a.present o n word f a.word_is a.below
+
+    -- as the laws of a set take it
+    abbrev pub node : NodeIs shape x.shapes (near_of v o) f link
+    node = node_with shape cover setup is_setup s u id v at a.present o n f link a.low (ap link_in (sym found))
+
+    -- the caller's guard once it has reached this
+    abbrev pub guard_then : Option RefParts → Guard
+    guard_then t = cover.reached (moment (scheme_input x) (length u.updates)) v.own.guard q t
+
+    -- as the reclaimer's laws take it
+    abbrev pub may_use : IsSafe setup (scheme_input x)
+    may_use = safe shape cover setup u.records u.books u.taken_out u.updates (memory setup.callers setup.records s.words) u.places u.parts
+
+    abbrev pub guard_at : At x.guards v.own.caller v.own.guard
+    guard_at = at_map guard_of u.books v.own.caller v.own (book shape cover setup s u id v at a.present)
+
+    -- The rule after a load by which the caller came to this, and what its pass knows
+    pub reached_target : (t : Option RefParts) → ComesTo shape cover shaped setup s u link t (guard_then t).start_taken_out → cover.covered setup (with_guard (scheme_input x) v.own.caller (guard_then t))
+        → (w : View) × Rule shape cover setup record { words = set s.words word k; homes = s.homes; views = set s.views id w } × ReachedTarget shape cover v o f q t k w
+    reached_target t came covered = let step : Step = node_step v Load o f k k in let time : Moment = moment (scheme_input x) (length u.updates) in let g : Guard = guard_then t in let has = covering.reached time v.own.guard q t a.may in
+        let b : Bool = cover.begins_loading && q.first in let note : Note = note_of shape came.target (length u.updates) in let notes : List Note = set v.own.notes q.place note in
+        let own = own_held shape cover setup is_setup s u id v at a.present in let blank = blank_kept shape came.target (length u.updates) in
+        let held : HeldFits shape cover.places x.shapes u.taken_out g notes = held_reached shape cover.places x.shapes u.taken_out v.own.guard g v.own.notes q.place t note own has.holds has.only came.held has.many (taken_by b time q.step v.own.guard g has.start) blank has.waits in
+        let recent_before = recent_now shape cover setup s u id v at a.present in
+        let recent : IsRecent (length u.updates) (length u.taken_out) g notes = recent_reached time v.own.guard g q.place t v.own.notes shape came.target came.found has.holds has.only has.waits
+        (starts_by b time q.step v.own.guard g has.start recent_before.updates_since recent_before.taken_since) recent_before in (
+          seeing v u.updates u.taken_out (book_after shape cover setup s u id v at a.present step g notes (roots_kept b v.own.root_notes)),
+          rule_after shape cover setup s u id v at a.present word step (node_finds shape cover setup is_setup s u id v at a.present o n Load word f a.word_is a.below (inl refl)) (λ e. cc) g notes (roots_kept b v.own.root_notes) tt
+              recent has.words (λ h. let l = length-append v.own.steps (step ∷ []) in let e = a.step in step_by b time q.step (length (v.own.steps ++ step ∷ [])) v.own.guard g has.start (omega arith) (omega arith)) held
+              (known_reached shape cover shaped setup s u id v at a.present g q t note blank has.holds has.only b (again_by b time q.step v.own.guard g has.start))
+              (told_reached shape cover shaped setup s u id v at a.present b g q.step has.start) covered,
+          record {
+            whole = are_whole shape cover setup s u id v at a.present;
+            target = came.target;
+            found = came.found;
+            within = λ w e. let h = (came.held w e).is in let below = there_below x.shapes u.taken_out g.start_taken_out w h in let l = length-map u.records shape_cell in let m = u.places.many in let p = h.some_index in let z = ap (λ (y : Setup). y.records) a.same in omega arith;
+            many = own.many;
+            noted = own.noted;
+            late = u.start_made v.own.caller v.own (book shape cover setup s u id v at a.present);
+            saw = saw_link shape cover setup s u id v at a.present is_setup o shaped a.same n f k a.low found came.target came.seen;
+            link = found_link shape cover setup is_setup s u id v at a.present o n f k a.field found;
+            own = found_own shape cover setup is_setup s u id v at a.present o n word f a.word_is a.below ∙ ap (λ (z : Setup). generation_at z o) (sym a.same);
+            epoch = x.epoch;
+            view = refl;
+          },
+        )
+
   -- A caller may load a link of its node and then hold what it leads to
-  pub reaches_link : (id word f : ℕ) (v : View) (o : Origin) (q : Reach) → v.present ≡ true → v.setup ≡ setup → word ≡ address setup.callers (Field (index_of o) f) → 3 ≤ f → f < 8 → IsLinkField f → Holds v o
-      → shape.may_hold (near_of v o) f → cover.may_reach v.own.guard q → q.step ≡ length v.own.steps + 1 → Lawful (Rule shape cover setup) id v word (λ n. n) (λ n w. ReachedLink shape cover v o f q n w)
-  reaches_link id word f v o q present same is low below field hold may_hold may_reach step s u at = let k : ℕ = get_or s.words word 0 in let t : Step = node_step v Load o f k k in let l : LinkParts = link_in k in
-      let x : Outline = before shape cover setup s u in let n = node_of shape cover setup is_setup s u id v at present o hold in
-      let found = found_word shape cover setup is_setup s u id v at present o n word f is below in
-      let node : NodeIs shape x.shapes (near_of v o) f l = node_with shape cover setup is_setup s u id v at present o n f l low (ap link_in (sym found)) in
-      let came = comes_to shape cover shaped setup s u l (target_of l) refl (λ w clean e. shaped.reaches setup (shape_input x) (near_of v o) f l w u.parts.shape node may_hold clean e) in
-      let time : Moment = moment (scheme_input x) (length u.updates) in let g : Guard = cover.reached time v.own.guard q (target_of l) in let has = covering.reached time v.own.guard q (target_of l) may_reach in
-      let b : Bool = cover.begins_loading && q.first in let note : Note = note_of shape came.target (length u.updates) in let notes : List Note = set v.own.notes q.place note in
-      let held : HeldFits shape cover.places x.shapes u.taken_out g notes = held_reached shape cover.places x.shapes u.taken_out v.own.guard g v.own.notes q.place (target_of l) note (own_held shape cover setup is_setup s u id v at present) has.holds has.only came.held has.many
-      (taken_by b time q.step v.own.guard g has.start) (blank_kept shape came.target (length u.updates)) has.waits in
-      let recent_before = recent_now shape cover setup s u id v at present in
-      let recent : IsRecent (length u.updates) (length u.taken_out) g notes = recent_reached time v.own.guard g q.place (target_of l) v.own.notes shape came.target came.found has.holds has.only has.waits
-      (starts_by b time q.step v.own.guard g has.start recent_before.updates_since recent_before.taken_since) recent_before in
-      let covered = covering.reaches setup (scheme_input x) v.own.caller (length u.updates) v.own.guard q (target_of l) (safe shape cover setup u.records u.books u.taken_out u.updates (memory setup.callers setup.records s.words) u.places u.parts) u.parts.scheme
-      (at_map guard_of u.books v.own.caller v.own (book shape cover setup s u id v at present)) may_reach came.reachable_is in (
-        seeing v u.updates u.taken_out (book_after shape cover setup s u id v at present t g notes (roots_kept b v.own.root_notes)),
-        rule_after shape cover setup s u id v at present word t (node_finds shape cover setup is_setup s u id v at present o n Load word f is below (inl refl)) (λ e. cc) g notes (roots_kept b v.own.root_notes) tt
-            recent has.words (λ h. let l = length-append v.own.steps (t ∷ []) in step_by b time q.step (length (v.own.steps ++ t ∷ [])) v.own.guard g has.start (omega arith) (omega arith)) held
-            (known_reached shape cover shaped setup s u id v at present g q (target_of l) note (blank_kept shape came.target (length u.updates)) has.holds has.only b (again_by b time q.step v.own.guard g has.start))
-            (told_reached shape cover shaped setup s u id v at present b g q.step has.start) covered,
-        record {
-          whole = are_whole shape cover setup s u id v at present;
-          target = came.target;
-          found = came.found;
-          within = λ w e. let h = came.held w e in let b = below_at x.shapes (w.index - 1) (linked w.generation h.body h.marked) h.at in let n = length-map u.records shape_cell in let m = u.places.many in let p = h.some_index in let z = ap (λ (y : Setup). y.records) same in omega arith;
-          many = (own_held shape cover setup is_setup s u id v at present).many;
-          noted = (own_held shape cover setup is_setup s u id v at present).noted;
-          late = u.start_made v.own.caller v.own (book shape cover setup s u id v at present);
-          saw = saw_link shape cover setup s u id v at present is_setup o shaped same n f k low found came.target came.seen;
-          link = found_link shape cover setup is_setup s u id v at present o n f k field found;
-          own = found_own shape cover setup is_setup s u id v at present o n word f is below ∙ ap (λ (z : Setup). generation_at z o) (sym same);
-          epoch = x.epoch;
-          view = refl;
-        },
-      )
+  pub reaches_link : shape.may_hold (near_of v o) f → Lawful (Rule shape cover setup) id v word (λ n. n) (λ n w. ReachedLink shape cover v o f q n w)
+  reaches_link may_hold s u at = let l : LinkParts = link s u at in let t : Option RefParts = target_of l in
+      let leads : (w : RefParts) → t ≡ Some w → (l.target ≡ Some w) × LeadsTo (before shape cover setup s u).shapes w = λ w e. let h = held_target l w e in (h.1, shaped.reaches setup (shape_input (before shape cover setup s u)) (near_of v o) f l w u.parts.shape (node s u at) may_hold h.0 h.1) in
+      reached_target s u at t (comes_to shape cover shaped setup s u l t (guard_then s u at t).start_taken_out (λ w e. let h = leads w e in (h.0, linked_from shape cover shaped setup s u (guard_then s u at t).start_taken_out w h.1)))
+      (covering.reaches setup (scheme_input (before shape cover setup s u)) v.own.caller (length u.updates) v.own.guard q t (may_use s u at) u.parts.scheme (guard_at s u at) a.may (leads_reachable shape cover shaped setup s u t (λ w e. (leads w e).1)))

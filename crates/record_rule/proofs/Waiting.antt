@@ -11,7 +11,7 @@ use Rattle.row_words.specs.Refs.{RefParts, refer}
 use Rattle.record_rule.specs.Records.{Record}
 use Rattle.record_rule.specs.Inputs.{ShapeCell, hidden, linked, out, shape_at, shape_cell, SchemeCell, scheme_at, scheme_cell}
 use Rattle.record_rule.specs.Facts.{At, ShapeFacts, FitsNote}
-use Rattle.record_rule.specs.Held.{HoldFits, while_linked, while_out, WaitFits}
+use Rattle.record_rule.specs.Held.{HoldFits, while_linked, while_out, IsThereWith, WaitFits}
 use Rattle.record_rule.specs.Laws.{LeadsTo, IsNewGeneration, IsThereAs, HiddenCells}
 use Rattle.record_rule.proofs.Lists.{below_at, one_at, map_at}
 use Rattle.record_rule.proofs.SeenCells.{cell_before, leads_after}
@@ -20,15 +20,42 @@ use Rattle.record_rule.proofs.SeenCells.{cell_before, leads_after}
 pub none_waits : {A : Type 0} (o : Option (ℕ × RefParts)) (p : ℕ) (t : RefParts) → o ≡ None → o ≡ Some (p, t) → A
 none_waits o p t e f = let none : None ≡ Some (p, t) = sym e ∙ f in let no_such : ⊥ = cc in absurd no_such
 
+-- the cell is of a record at this generation with this body and marked position: linked, or taken out at this number or later
+abbrev pub IsFrom : ShapeCell → ℕ → ℕ → List ℕ → ℕ → Type 0
+IsFrom cell generation start body m = (cell ≡ linked generation body m) ⊎ ((n : ℕ) × (start ≤ n) × (cell ≡ out generation body m n))
+
+-- where a reclaimer sees the record there, a set does
+seen_place : (start generation : ℕ) (p : Place) (x : Record) → IsThereAs (scheme_at p x) generation start → IsFrom (shape_at p x) generation start (drop 3 x.row) x.marked
+seen_place start generation Linked x h = inl (ap (λ (e : ℕ). linked e (drop 3 x.row) x.marked) h)
+seen_place start generation (Of d TakenOut) x h = inr (x.taken_number, h.1, ap (λ (e : ℕ). out e (drop 3 x.row) x.marked x.taken_number) h.0)
+seen_place start generation (Of d Limbo) x h = inr (x.taken_number, h.1, ap (λ (e : ℕ). out e (drop 3 x.row) x.marked x.taken_number) h.0)
+seen_place start generation (Of d t) x h = absurd h
+seen_place start generation p x h = absurd h
+
+-- wherever it is
+pub seen_cell : (records : List Record) (i start generation : ℕ) (c : SchemeCell) → At (map scheme_cell records) i c → IsThereAs c generation start
+    → (body : List ℕ) × (m : ℕ) × (At (map shape_cell records) i (linked generation body m) ⊎ ((n : ℕ) × (start ≤ n) × At (map shape_cell records) i (out generation body m n)))
+seen_cell records i start generation c at is = let y = map_at scheme_cell records i c at in let x : Record = y.0 in let here = at_map shape_cell records i x y.1 in
+    (drop 3 x.row, x.marked, ⊎_elim (λ e. inl (here ∙ ap some e)) (λ z. inr (z.0, z.1, here ∙ ap some z.2)) (seen_place start generation x.place x (subst (λ (z : SchemeCell). IsThereAs z generation start) (sym y.2) is)))
+
 module _ (s : ShapeFacts) where
+  -- it is there with one body
+  there_once : (cells : List ShapeCell) (r : RefParts) (a b : List ℕ) → IsThereWith s cells r a → IsThereWith s cells r b → a ≡ b
+  there_once cells r a b x y = ⊎_elim
+      (λ p. ⊎_elim
+      (λ q. let e : linked r.generation a x.0 ≡ linked r.generation b y.0 = one_at cells (r.index - 1) (linked r.generation a x.0) (linked r.generation b y.0) p q in cc)
+      (λ q. let e : linked r.generation a x.0 ≡ out r.generation b y.0 q.0 = one_at cells (r.index - 1) (linked r.generation a x.0) (out r.generation b y.0 q.0) p q.1 in let none : ⊥ = cc in absurd none) y.1)
+      (λ p. ⊎_elim
+      (λ q. let e : out r.generation a x.0 p.0 ≡ linked r.generation b y.0 = one_at cells (r.index - 1) (out r.generation a x.0 p.0) (linked r.generation b y.0) p.1 q in let none : ⊥ = cc in absurd none)
+      (λ q. let e : out r.generation a x.0 p.0 ≡ out r.generation b y.0 q.0 = one_at cells (r.index - 1) (out r.generation a x.0 p.0) (out r.generation b y.0 q.0) p.1 q.1 in cc) y.1) x.1
+
   -- reaching
-  pub waits_reached : (cells : List ShapeCell) (taken_out : List RefParts) (start : ℕ) (r : RefParts) (note : Note) (x : LeadsTo cells r) → FitsNote s note x.0 → (n : ℕ) × At note.words 1 (Some n) → note.kept ≡ [] → WaitFits s cells taken_out start r note
-  waits_reached cells taken_out start r note x fits keyed bare = record {
-    indexed = x.2;
-    was_linked = inl x;
-    fits = λ body b. ⊎_elim
-        (λ y. let e : linked r.generation x.0 x.1 ≡ linked r.generation body b.0 = one_at cells (r.index - 1) (linked r.generation x.0 x.1) (linked r.generation body b.0) x.3 y in let same : x.0 ≡ body = cc in subst (FitsNote s note) same fits)
-        (λ y. let e : linked r.generation x.0 x.1 ≡ out r.generation body b.0 y.0 = one_at cells (r.index - 1) (linked r.generation x.0 x.1) (out r.generation body b.0 y.0) x.3 y.1 in let none : ⊥ = cc in absurd none) b.1;
+  pub waits_reached : (cells : List ShapeCell) (taken_out : List RefParts) (start : ℕ) (r : RefParts) (note : Note) (body : List ℕ) → 0 < r.index → LeadsTo cells r ⊎ ((k : ℕ) × (start ≤ k) × At taken_out k r) → IsThereWith s cells r body → FitsNote s note body
+      → (n : ℕ) × At note.words 1 (Some n) → note.kept ≡ [] → WaitFits s cells taken_out start r note
+  waits_reached cells taken_out start r note body indexed was_linked there fits keyed bare = record {
+    indexed = indexed;
+    was_linked = was_linked;
+    fits = λ b x. subst (FitsNote s note) (there_once cells r body b there x) fits;
     keyed = keyed;
     bare = bare;
   }
@@ -120,19 +147,7 @@ module _ (s : ShapeFacts) where
   -- a confirmed record is held
   pub waits_confirmed : (records : List Record) (taken_out : List RefParts) (start : ℕ) (r : RefParts) (note : Note) → WaitFits s (map shape_cell records) taken_out start r note → (c : SchemeCell) → At (map scheme_cell records) (r.index - 1) c
       → IsThereAs c r.generation start → HoldFits s (map shape_cell records) start r note
-  waits_confirmed records taken_out start r note w c at is = let y = map_at scheme_cell records (r.index - 1) c at in by y.0 y.1 (seen_place start r.generation y.0.place y.0 (subst (λ (z : SchemeCell). IsThereAs z r.generation start) (sym y.2) is))
-    where
-      Seen : ℕ → ℕ → Record → Type 0
-      Seen start generation x = ((body : List ℕ) × (m : ℕ) × (shape_cell x ≡ linked generation body m)) ⊎ ((body : List ℕ) × (m : ℕ) × (n : ℕ) × (shape_cell x ≡ out generation body m n) × (start ≤ n))
-
-      seen_place : (start generation : ℕ) (p : Place) (x : Record) → IsThereAs (scheme_at p x) generation start → ((body : List ℕ) × (m : ℕ) × (shape_at p x ≡ linked generation body m)) ⊎ ((body : List ℕ) × (m : ℕ) × (n : ℕ) × (shape_at p x ≡ out generation body m n) × (start ≤ n))
-      seen_place start generation Linked x h = inl (drop 3 x.row, x.marked, ap (λ (e : ℕ). linked e (drop 3 x.row) x.marked) h)
-      seen_place start generation (Of d TakenOut) x h = inr (drop 3 x.row, x.marked, x.taken_number, ap (λ (e : ℕ). out e (drop 3 x.row) x.marked x.taken_number) h.0, h.1)
-      seen_place start generation (Of d Limbo) x h = inr (drop 3 x.row, x.marked, x.taken_number, ap (λ (e : ℕ). out e (drop 3 x.row) x.marked x.taken_number) h.0, h.1)
-      seen_place start generation (Of d t) x h = absurd h
-      seen_place start generation p x h = absurd h
-
-      by : (x : Record) → At records (r.index - 1) x → ((body : List ℕ) × (m : ℕ) × (shape_at x.place x ≡ linked r.generation body m)) ⊎ ((body : List ℕ) × (m : ℕ) × (n : ℕ) × (shape_at x.place x ≡ out r.generation body m n) × (start ≤ n)) → HoldFits s (map shape_cell records) start r note
-      by x there z = let i = w.indexed in let same : r.index - 1 + 1 ≡ r.index = omega arith in subst (λ (k : ℕ). HoldFits s (map shape_cell records) start (refer k r.generation) note) same (⊎_elim
-          (λ y. let cell : At (map shape_cell records) (r.index - 1) (linked r.generation y.0 y.1) = at_map shape_cell records (r.index - 1) x there ∙ ap some y.2 in while_linked (r.index - 1) r.generation y.1 y.0 note cell (w.fits y.0 (y.1, inl cell)))
-          (λ y. let cell : At (map shape_cell records) (r.index - 1) (out r.generation y.0 y.1 y.2) = at_map shape_cell records (r.index - 1) x there ∙ ap some y.3 in while_out (r.index - 1) r.generation y.1 y.2 y.0 note cell y.4 (w.fits y.0 (y.1, inr (y.2, cell)))) z)
+  waits_confirmed records taken_out start r note w c at is = let x = seen_cell records (r.index - 1) start r.generation c at is in let i = w.indexed in let same : r.index - 1 + 1 ≡ r.index = omega arith in
+      subst (λ (k : ℕ). HoldFits s (map shape_cell records) start (refer k r.generation) note) same (⊎_elim
+      (λ y. while_linked (r.index - 1) r.generation x.1 x.0 note y (w.fits x.0 (x.1, inl y)))
+      (λ y. while_out (r.index - 1) r.generation x.1 y.0 x.0 note y.2 y.1 (w.fits x.0 (x.1, inr (y.0, y.2)))) x.2)

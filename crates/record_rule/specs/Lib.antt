@@ -4,6 +4,7 @@ pub mod Machines
 pub mod Facts
 pub mod Walks
 pub mod Laws
+pub mod Frozen
 pub mod Guards
 pub mod Least
 pub mod Taken
@@ -23,6 +24,7 @@ pub mod Asides
 pub mod ChainRows
 pub mod Links
 pub mod LockedLinks
+pub mod FrozenLinks
 pub mod Placing
 pub mod ControlSteps
 pub mod Freeing

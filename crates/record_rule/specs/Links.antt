@@ -154,12 +154,12 @@ abbrev pub IsFound : Option RefParts → Option (List ℕ) → Type 0
 IsFound None body = body ≡ None
 IsFound (Some t) body = (b : List ℕ) × (body ≡ Some b)
 
--- A link is loaded to reach what it leads to: the pass notes the updates up to this load, what the load shows is so of just these, and so many stand in the note of what it reaches
-pub record ReachedLink (s : ShapeFacts) (c : CoverFacts) (v : View) (o : Origin) (f : ℕ) (q : Reach) (n : ℕ) (w : View) : Type 0 where
+-- A link is loaded to reach t, which is what it leads to or nothing: the pass notes the updates up to this load, what the load shows is so of just these, and so many stand in the note of what it reaches
+pub record ReachedTarget (s : ShapeFacts) (c : CoverFacts) (v : View) (o : Origin) (f : ℕ) (q : Reach) (t : Option RefParts) (n : ℕ) (w : View) : Type 0 where
   pub whole : AreWhole v w.seen_updates w.seen_taken_out
   pub target : Option (List ℕ)
-  pub found : IsFound (target_of (link_in n)) target
-  pub within : (t : RefParts) → target_of (link_in n) ≡ Some t → t.index ≤ v.setup.records
+  pub found : IsFound t target
+  pub within : (r : RefParts) → t ≡ Some r → r.index ≤ v.setup.records
   -- the guard has its places, each with a note, and started before
   pub many : length v.own.guard.holds ≡ c.places
   pub noted : length v.own.notes ≡ c.places
@@ -170,10 +170,14 @@ pub record ReachedLink (s : ShapeFacts) (c : CoverFacts) (v : View) (o : Origin)
   pub own : own_in n ≡ generation_at v.setup o
   pub epoch : ℕ
   pub view : w ≡ seeing v w.seen_updates w.seen_taken_out (record (with_step v.own v.setup.records (node_step v Load o f n n)) {
-    guard = c.reached (record { epoch = epoch; taken_out = length w.seen_taken_out; updates = length w.seen_updates }) v.own.guard q (target_of (link_in n));
+    guard = c.reached (record { epoch = epoch; taken_out = length w.seen_taken_out; updates = length w.seen_updates }) v.own.guard q t;
     notes = slice_set v.own.notes q.place (note_of s target (length w.seen_updates));
     root_notes = roots_kept (c.begins_loading && q.first) v.own.root_notes;
   })
+
+-- A link is loaded to reach its target, unless the node is marked
+abbrev pub ReachedLink : ShapeFacts → CoverFacts → View → Origin → ℕ → Reach → ℕ → View → Type 0
+ReachedLink s c v o f q n w = ReachedTarget s c v o f q (target_of (link_in n)) n w
 
 -- the entry of a call that a step decides when so many updates took effect
 abbrev pub entry_for : ℕ → Option Call → List Answered

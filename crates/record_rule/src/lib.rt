@@ -3,6 +3,7 @@
 //!
 //! In `specs/` read `Records` (where each record is), `Inputs` (what the facts may read), `Machines`,
 //! `Facts` and `Laws` (what a set and a reclaimer give; `Guards` and `Least` are for those who give it),
+//! `Frozen` (what a reclaimer owes where links of marked records are followed),
 //! `Taken`, `Held` with `Known`, `Histories` and `Recorded` (what holds for all of them), and `World`, which
 //! is the rule, with `Opening`, the state that a table starts in. Then come the kinds of step, each by what its
 //! pass knows afterwards: `Kinds` (control loads, drawing, the owner's steps), `HandingOut`, `Asides` and
@@ -13,4 +14,4 @@
 
 mod world;
 
-pub use world::{Cover, Shape, World};
+pub use world::{Cover, CoversFrozen, Shape, World};

@@ -44,6 +44,19 @@ pub trait Cover {
     ghost named: { facts.name ≡ NAME };
 }
 
+/// A reclaimer under which a caller may also follow the link of a record that is marked or was taken
+/// out: what was taken out behind a guard's start is there until the guard ends. No reclamation and
+/// DEBRA are such; hazard pointers and 2GEIBR aren't. It has no function that runs.
+///
+/// That epochs allow such walks and hazard pointers don't is Brown's observation ("Reclaiming memory for
+/// lock-free data structures: there has to be a better way", PODC 2015); that a structure asks for it by
+/// a bound is this project's.
+pub trait CoversFrozen: Cover {
+    ghost use Rattle.record_rule.specs.Frozen.{FrozenLaws};
+
+    ghost frozen: { FrozenLaws Self.facts };
+}
+
 /// The rule of the one table.
 pub struct World<S, R> {
     marker: PhantomData<(S, R)>,

@@ -8,6 +8,7 @@ pub mod SamePass
 pub mod Recording
 pub mod Started
 pub mod InTable
+pub mod ReachSteps
 pub mod LinkWords
 pub mod Stamping
 pub mod Sending

@@ -19,7 +19,7 @@ use Rattle.record_rule.specs.Freeing.{LoadedControl, LoadedBy}
 use Rattle.record_rule.specs.TakesFree.{LoadedFree}
 use Rattle.record_rule.specs.Placing.{placed_view}
 use Rattle.record_rule.specs.Asides.{put_aside_as, put_aside, took_spare_as, took_spare}
-use Rattle.record_rule.specs.Links.{Origin, from_place, index_of, node_step, LoadedKey, LoadedLink, ReachedLink, link_word, locks_after, LeftLink, RefusedLink, ToldExchange, PublishedBy, ToldPublish, UnlinkedBy, ToldUnlink}
+use Rattle.record_rule.specs.Links.{Origin, from_place, index_of, node_step, LoadedKey, LoadedLink, ReachedTarget, link_word, locks_after, LeftLink, RefusedLink, ToldExchange, PublishedBy, ToldPublish, UnlinkedBy, ToldUnlink}
 use Rattle.record_rule.specs.LockedLinks.{locks_left, StoredLink, PublishedLocked, UnlinkedLocked, ToldLocked}
 use Rattle.record_memory.specs.declared.books.LockedWord.{LockedWord}
 use Rattle.record_rule.specs.ControlSteps.{seeing_if, own_store, StoredControl, MayStoreControl}
@@ -43,8 +43,8 @@ module _ (s : ShapeFacts) (v : View) (o : Origin) (f : ℕ) (place : Word) (name
   pub adds_link : (c : CoverFacts) (first : Bool) (n : ℕ) (w : View) → LoadedLink s c v o f first n w → Adds Load place n n v w
   adds_link c first n w t = adds_by Load place n n v w _ t.view record { same = record { caller = refl; setup = refl; present = refl; others = refl }; step = node_step v Load o f n n; one = refl; kind_is = refl; word_is = sym name; found_is = refl; left_is = refl; idle_is = refl }
 
-  pub adds_reach : (c : CoverFacts) (q : Reach) (n : ℕ) (w : View) → ReachedLink s c v o f q n w → Adds Load place n n v w
-  adds_reach c q n w t = adds_by Load place n n v w _ t.view record { same = record { caller = refl; setup = refl; present = refl; others = refl }; step = node_step v Load o f n n; one = refl; kind_is = refl; word_is = sym name; found_is = refl; left_is = refl; idle_is = refl }
+  pub adds_reach : (c : CoverFacts) (q : Reach) (t : Option RefParts) (n : ℕ) (w : View) → ReachedTarget s c v o f q t n w → Adds Load place n n v w
+  adds_reach c q r n w t = adds_by Load place n n v w _ t.view record { same = record { caller = refl; setup = refl; present = refl; others = refl }; step = node_step v Load o f n n; one = refl; kind_is = refl; word_is = sym name; found_is = refl; left_is = refl; idle_is = refl }
 
   adds_refused : (n : ℕ) (w : View) → RefusedLink v o f n w → Adds Exchange place n n v w
   adds_refused n w t = adds_by Exchange place n n v w _ t.view record { same = record { caller = refl; setup = refl; present = refl; others = refl }; step = node_step v Exchange o f n n; one = refl; kind_is = refl; word_is = sym name; found_is = refl; left_is = refl; idle_is = refl }

@@ -25,6 +25,8 @@ mod closing;
 mod controls;
 // Calls: the owner's steps on a record.
 mod fields;
+// Calls: following links of records that may be marked.
+mod frozen;
 // Calls: handing records out.
 mod hand_out;
 // Calls: steps on the words of roots and of held records.
@@ -54,7 +56,7 @@ pub use making::{PrepareError, prepare};
 pub use meeting::Front;
 pub use nodes::{Found, Held, Node};
 pub use passes::Pass;
-pub use record_rule::{Cover, Shape, World};
+pub use record_rule::{Cover, CoversFrozen, Shape, World};
 pub use retiring::TakenOut;
 pub use rows::Rows;
 pub use table::Table;

@@ -18,7 +18,7 @@ use Rattle.reclaim_ibr.proofs.Locals.{local_pass}
 use Rattle.ibr_facts.specs.Keeping.{ibr}
 use Rattle.ibr_facts.proofs.Reaching.{reached_so}
 use Rattle.reclaim_api.specs.Holds.{HoldsNothing}
-use Rattle.reclaim_api.proofs.Reached.{odd, marked_none, missing_none, holds_nothing}
+use Rattle.reclaim_api.proofs.Reaching.{odd, marked_none, missing_none, holds_nothing}
 use Rattle.reclaim_ibr.proofs.Holding.{seen_then, seen_after, keeps_then_else, keeps_loaded_else, holds_there, holds_none}
 use Rattle.reclaim_ibr.proofs.Trying.{is_read, upper_raised, keeps_raise, local_stopped, local_held, local_raised, held_steps, raised_steps}
 use Rattle.reclaim_ibr.proofs.reaching.reach.Goals as goal
@@ -37,7 +37,7 @@ pub returns-then-link-ne0-clause-reached : goal.returns-then-link-ne0-clause-rea
 returns-then-link-ne0-clause-reached g c = let s = c.reach_link-link.ensures.step in let p = c.args.pass.now in let q = c.reach_link-link.new.pass in let same = ap (λ x. x.value.me.0) c.reach_link-link.ensures.pass.since in (
   ap mark_bit (sym c.link.view_is) ∙ odd c.link.inside.flags c.if-link-ne0.true,
   seen_then g.S.Shape.facts p q (origin c.args.from) c.args.place s.0 s.2 same (has_started c.args.local.now p c.requires.inside.inside c.requires.local) c.requires.place c.reach_link-link.result (sym s.1),
-  holds_nothing g.S.Shape.facts ibr q (view p) (origin c.args.from) (reach_at p c.args.place) s.0 s.2 (λ m t. reached_so m _ _ t) (marked_none s.0 (ap mark_bit (sym (c.link.view_is ∙ s.1)) ∙ odd c.link.inside.flags c.if-link-ne0.true)),
+  holds_nothing g.S.Shape.facts ibr q (view p) (origin c.args.from) (reach_at p c.args.place) _ s.0 s.2 (λ m t. reached_so m _ _ t) (marked_none s.0 (ap mark_bit (sym (c.link.view_is ∙ s.1)) ∙ odd c.link.inside.flags c.if-link-ne0.true)),
 )
 
 pub returns-then-link-ne0-clause-keeps : goal.returns-then-link-ne0-clause-keeps
@@ -61,7 +61,7 @@ returns-in_default-clause-reached g c = let s = c.reach_link-link.ensures.step i
       clear,
       to,
       seen_then g.S.Shape.facts p q (origin c.args.from) c.args.place s.0 s.2 same (has_started c.args.local.now p c.requires.inside.inside c.requires.local) c.requires.place (link_in s.0) refl,
-      holds_nothing g.S.Shape.facts ibr q (view p) (origin c.args.from) (reach_at p c.args.place) s.0 s.2 (λ m t. reached_so m _ _ t) (missing_none s.0 clear to),
+      holds_nothing g.S.Shape.facts ibr q (view p) (origin c.args.from) (reach_at p c.args.place) _ s.0 s.2 (λ m t. reached_so m _ _ t) (missing_none s.0 clear to),
     )
 
 pub returns-in_default-clause-keeps : goal.returns-in_default-clause-keeps

@@ -8,7 +8,7 @@ use Rattle.record_table.specs.Nodes.{origin, HasStarted}
 use Rattle.record_table.specs.declared.passes.Pass.{Pass}
 use Rattle.reclaim_debra.specs.declared.bags.Bags.{Bags}
 use Rattle.reclaim_debra.specs.LocalParts.{IsActive, IsGuarded, IsLocal}
-use Rattle.reclaim_api.proofs.Reached.{odd, marked_none, missing_none}
+use Rattle.reclaim_api.proofs.Reaching.{odd, marked_none, missing_none}
 use Rattle.reclaim_debra.proofs.Reaching.{reached_local, has_seen, holds_there, nothing_there, keeps_else}
 use Rattle.reclaim_debra.proofs.scheme.DebraScheme.reach.Goals as goal
 

@@ -12,7 +12,7 @@ use Rattle.record_table.specs.declared.nodes.Node.{Node}
 use Rattle.reclaim_api.proofs.Keeping.{keeps_then}
 use Rattle.hazard_facts.specs.Pointers.{hazard}
 use Rattle.hazard_facts.proofs.Reaching.{has_reached}
-use Rattle.reclaim_api.proofs.Reached.{odd, marked_none, missing_none, holds_nothing}
+use Rattle.reclaim_api.proofs.Reaching.{odd, marked_none, missing_none, holds_nothing}
 use Rattle.reclaim_hazard.specs.LocalStays.{local_on}
 use Rattle.reclaim_hazard.specs.Running.{confirms}
 use Rattle.reclaim_hazard.proofs.Loads.{keeps_else, words_still, loaded_still, has_started, start_seen}
@@ -32,7 +32,7 @@ returns-then-link-ne0-clause-reached g c = let s = c.reach_link-link.ensures.ste
       ap mark_bit (sym c.link.view_is) ∙ odd c.link.inside.flags c.if-link-ne0.true,
       has_seen g.S.Shape.facts hazard p q (view p) (origin c.args.from) (reach_at p c.args.place) s.0 told told.whole refl refl c.requires.place
           (has_started g.S.Shape.facts p q (origin c.args.from) c.args.place s.0 told same c.requires.inside.later) (start_seen g.S.Shape.facts p q (origin c.args.from) c.args.place s.0 told same c.requires.inside.later) c.reach_link-link.result (sym s.1),
-      holds_nothing g.S.Shape.facts hazard q (view p) (origin c.args.from) (reach_at p c.args.place) s.0 told (λ m t. has_reached m _ _ t c.requires.place) (marked_none s.0 (ap mark_bit (sym (c.link.view_is ∙ s.1)) ∙ odd c.link.inside.flags c.if-link-ne0.true)),
+      holds_nothing g.S.Shape.facts hazard q (view p) (origin c.args.from) (reach_at p c.args.place) _ s.0 told (λ m t. has_reached m _ _ t c.requires.place) (marked_none s.0 (ap mark_bit (sym (c.link.view_is ∙ s.1)) ∙ odd c.link.inside.flags c.if-link-ne0.true)),
     )
 
 pub returns-then-link-ne0-clause-keeps : goal.returns-then-link-ne0-clause-keeps
@@ -54,7 +54,7 @@ returns-in_default-clause-reached g c = let s = c.reach_link-link.ensures.step i
       to,
       has_seen g.S.Shape.facts hazard p q (view p) (origin c.args.from) (reach_at p c.args.place) s.0 told told.whole refl refl c.requires.place
           (has_started g.S.Shape.facts p q (origin c.args.from) c.args.place s.0 told same c.requires.inside.later) (start_seen g.S.Shape.facts p q (origin c.args.from) c.args.place s.0 told same c.requires.inside.later) (link_in s.0) refl,
-      holds_nothing g.S.Shape.facts hazard q (view p) (origin c.args.from) (reach_at p c.args.place) s.0 told (λ m t. has_reached m _ _ t c.requires.place) (missing_none s.0 clear to),
+      holds_nothing g.S.Shape.facts hazard q (view p) (origin c.args.from) (reach_at p c.args.place) _ s.0 told (λ m t. has_reached m _ _ t c.requires.place) (missing_none s.0 clear to),
     )
 
 pub returns-in_default-clause-keeps : goal.returns-in_default-clause-keeps

@@ -4,7 +4,7 @@ use Rattle.row_words.specs.Refs.{LinkParts}
 use Rattle.row_words.specs.Packing.{link_in}
 use Rattle.record_rule.specs.Facts.{mark_bit}
 use Rattle.record_table.specs.Nodes.{origin}
-use Rattle.reclaim_api.proofs.Reached.{odd, marked_none, missing_none}
+use Rattle.reclaim_api.proofs.Reaching.{odd, marked_none, missing_none}
 use Rattle.reclaim_none.proofs.Reaching.{has_seen, holds_there, nothing_there, keeps_else}
 use Rattle.reclaim_none.proofs.scheme.NoReclaimScheme.reach.Goals as goal
 
