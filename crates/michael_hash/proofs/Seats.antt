@@ -27,6 +27,11 @@ module _ {S R L : Type 0} where
   read_off f [] = refl
   read_off {X = X} f (c ∷ cs) = ap (λ (l : List X). f c.pass ∷ l) (read_off f cs)
 
+  -- and so what is so of each
+  pub each_off : (P : Pass S R → Type 0) (cs : List (Caller S R L)) → All P (passes_of cs) → All (λ c. P c.pass) cs
+  each_off P [] h = All-nil (λ c. P c.pass)
+  each_off P (c ∷ cs) h = All-cons (λ c. P c.pass) c cs (All-head P c.pass (passes_of cs) h) (each_off P cs (All-tail P c.pass (passes_of cs) h))
+
   module _ (is_local : L → Bool → View → View → Type 0) (t : Table S R) where
     -- all callers, as a table is closed with them
     pub all_passes : (cs : List (Caller S R L)) → All (IsWholeCallerOf is_local t) cs → map (λ c. (view c.pass).own.caller) cs ≡ numbers_from 0 (setup_of t).callers → AreAllPasses t (passes_of cs)

@@ -1,8 +1,9 @@
 // The table as a set that callers share.
 ghost use Rattle.std.specs.Prelude.{◌≡◌, All, map};
+ghost use Rattle.record_rule.specs.World.{StartsWith};
 ghost use Rattle.list_facts.specs.Michael.{michael};
 ghost use Rattle.record_table.specs.Handles as handles;
-ghost use Rattle.record_table.specs.Closing.{closed_setup, closed_books, numbers_from, IsClosedBy};
+ghost use Rattle.record_table.specs.Closing.{closed_setup, closed_books, history_of, numbers_from, IsClosedBy};
 ghost use Rattle.manager.specs.Made.{AreAddedUp};
 ghost use Rattle.manager.specs.Manners.{manner};
 ghost use Rattle.michael_hash.specs.Callers.{IsWholeCallerOf};
@@ -54,6 +55,7 @@ impl<R: Scheme, A: Allocator, P: Pool> ConcurrentSet for MichaelHash<R, A, P> {
         requires order { map (λ caller. (handles.view caller.pass).own.caller) callers.items ≡ numbers_from 0 (handles.setup_of self.lists.manager.table).callers }
         ensures setup { closed_setup result ≡ handles.setup_of self.lists.manager.table }
         ensures books { closed_books result ≡ map (λ caller. (handles.view caller.pass).own) callers.items }
+        ensures fronts { All (λ caller. StartsWith (history_of result) (handles.view caller.pass).front) callers.items }
         ensures fits { IsClosedBy michael R.facts result }
         ensures moves { AreAddedUp result }
     {

@@ -5,7 +5,7 @@ ghost use Rattle.row_words.specs.declared.links.Freed.{Freed};
 ghost use Rattle.record_rule.specs.World.{StartsWith};
 ghost use Rattle.list_facts.specs.Michael.{michael};
 ghost use Rattle.record_table.specs.Handles.{setup_of, view, IsPassOf, IsSamePass};
-ghost use Rattle.record_table.specs.Closing.{closed_setup, closed_books, own_book, AreAllPasses, IsClosedBy};
+ghost use Rattle.record_table.specs.Closing.{closed_setup, closed_books, own_book, AreAllPasses, IsClosedBy, BeginsHistory};
 ghost use Rattle.reclaim_api.specs.Frames.{LeavesRest};
 ghost use Rattle.reclaim_api.specs.Guarding.{Enters};
 ghost use Rattle.record_pieces.specs.Giving.{GivesChains};
@@ -99,6 +99,7 @@ impl<R: Scheme, A: Allocator, P: Pool> MichaelHash<R, A, P> {
         requires { AreAllPasses self.lists.manager.table (passes_of callers.items) }
         ensures setup { closed_setup result ≡ setup_of self.lists.manager.table }
         ensures books { closed_books result ≡ map own_book (passes_of callers.items) }
+        ensures fronts { All (BeginsHistory result) (passes_of callers.items) }
         ensures fits { IsClosedBy michael R.facts result }
         ensures moves { AreAddedUp result }
     {

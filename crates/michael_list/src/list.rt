@@ -5,7 +5,7 @@ ghost use Rattle.record_rule.specs.World.{StartsWith};
 ghost use Rattle.list_facts.specs.Michael.{michael};
 ghost use Rattle.record_table.specs.Handles.{setup_of, view, IsPassOf, IsSamePass};
 ghost use Rattle.record_table.specs.Made.{AreFreshPasses, setup_with, AreBadRecords, AreBadCallers};
-ghost use Rattle.record_table.specs.Closing.{closed_setup, closed_books, own_book, AreAllPasses, IsClosedBy};
+ghost use Rattle.record_table.specs.Closing.{closed_setup, closed_books, own_book, AreAllPasses, IsClosedBy, BeginsHistory};
 ghost use Rattle.record_memory.specs.declared.books.Book.{Book};
 ghost use Rattle.row_words.specs.declared.links.Freed.{Freed};
 ghost use Rattle.reclaim_api.specs.Frames.{LeavesRest};
@@ -207,11 +207,12 @@ impl<R: Scheme, A: Allocator, P: Pool> MichaelList<R, A, P> {
     }
 
     /// Ends the set. `callers` has every caller of it in order of number. The closed table has one legal history, in
-    /// which each answered call stands once, in its caller's order.
+    /// which each answered call stands once, in its caller's order. The front of each caller begins it.
     pub fn close(self, callers: Vec<Caller<MichaelShape, R>>) -> Closed
         requires { AreAllPasses self.manager.table (passes_of callers.items) }
         ensures setup { closed_setup result ≡ setup_of self.manager.table }
         ensures books { closed_books result ≡ map own_book (passes_of callers.items) }
+        ensures fronts { All (BeginsHistory result) (passes_of callers.items) }
         ensures fits { IsClosedBy michael R.facts result }
         ensures moves { AreAddedUp result }
     {

@@ -6,7 +6,8 @@ ghost use Rattle.record_memory.specs.declared.books.Book.{Book};
 ghost use Rattle.record_memory.specs.declared.books.Setup.{Setup};
 ghost use Rattle.record_memory.specs.declared.books.View.{View};
 ghost use Rattle.record_rule.specs.Facts.{ShapeFacts, CoverFacts};
-ghost use Rattle.record_table.specs.Closing.{closed_setup, closed_books, numbers_from, IsClosedBy};
+ghost use Rattle.record_rule.specs.World.{StartsWith};
+ghost use Rattle.record_table.specs.Closing.{closed_setup, closed_books, history_of, numbers_from, IsClosedBy};
 ghost use Rattle.manager.specs.Counted.{AreCountsOf};
 ghost use Rattle.manager.specs.Made.{AreAddedUp};
 ghost use Rattle.set_api.specs.declared.answer.Answer.{Answer};
@@ -63,12 +64,14 @@ pub trait ConcurrentSet {
         ensures counts { AreCountsOf result (view caller.now).own };
 
     /// Ends the set. `callers` has every caller of it in order of number. The closed table has one legal
-    /// history, in which each answered call stands once, in its caller's order.
+    /// history, in which each answered call stands once, in its caller's order. What a caller knew of the
+    /// history begins it.
     fn close(self, callers: Vec<Self::Caller>) -> Closed
         requires has { All (has self) callers.items }
         requires order { map (λ caller. (view caller).own.caller) callers.items ≡ numbers_from 0 (setup self).callers }
         ensures setup { closed_setup result ≡ setup self }
         ensures books { closed_books result ≡ map (λ caller. (view caller).own) callers.items }
+        ensures fronts { All (λ caller. StartsWith (history_of result) (view caller).front) callers.items }
         ensures fits { IsClosedBy facts cover result }
         ensures moves { AreAddedUp result };
 }
