@@ -2,6 +2,7 @@ pub mod Records
 pub mod Inputs
 pub mod Machines
 pub mod Facts
+pub mod Shelves
 pub mod Walks
 pub mod Laws
 pub mod Guards
