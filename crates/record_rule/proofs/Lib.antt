@@ -48,3 +48,5 @@ pub mod CountingTakings
 pub mod Drained
 pub mod TakesFree
 pub mod Makes
+pub mod ShelfCells
+pub mod OffShelf

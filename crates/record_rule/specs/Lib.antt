@@ -25,6 +25,7 @@ pub mod Placing
 pub mod ControlSteps
 pub mod Freeing
 pub mod TakesFree
+pub mod Shelving
 pub mod Makes
 pub mod Splits
 pub mod Meetings
