@@ -50,3 +50,5 @@ pub mod TakesFree
 pub mod Makes
 pub mod ShelfCells
 pub mod OffShelf
+pub mod OnShelf
+pub mod TakesChain
