@@ -52,3 +52,5 @@ pub mod ShelfCells
 pub mod OffShelf
 pub mod OnShelf
 pub mod TakesChain
+pub mod PutShelf
+pub mod GivesChain

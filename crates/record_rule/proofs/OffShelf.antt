@@ -1,5 +1,5 @@
 -- The records once all of one shelf came to a caller, as free ones.
-use Rattle.std.proofs.Common.{◌≡◌, ◌≢◌, ℕ, zero, suc, ◌+◌, ◌-◌, ◌<◌, List, [], ◌∷◌, length, map, Bool, true, false, cond, eqb, sum_by, Option, Some, None, sym, refl, ap, ◌∙◌, subst, arith}
+use Rattle.std.proofs.Common.{◌≡◌, ◌≢◌, ℕ, ◌+◌, ◌<◌, List, [], ◌∷◌, map, Bool, true, false, cond, eqb, sum_by, Option, sym, refl, ap, ◌∙◌, subst, arith}
 use Rattle.std.specs.List.{count_by}
 use Rattle.std.proofs.lemmas.Bool.{eqb-true, eqb-false}
 use Rattle.std.proofs.lemmas.List.{length-map}
@@ -14,9 +14,9 @@ use Rattle.record_rule.specs.Records.{Record, IsSound, carried, share_at, share}
 use Rattle.record_rule.specs.Inputs.{shape_at, shape_cell, scheme_at, scheme_cell, taken_at, taken_cell}
 use Rattle.record_rule.specs.Counts.{drawn_as, retired_as, freed_as, lives_before, was_drawn, times_retired, times_freed}
 use Rattle.record_rule.specs.Kinds.{is_idle}
-use Rattle.record_rule.specs.Shelves.{PoolCell, off, on, pool_at, pool_cell}
+use Rattle.record_rule.specs.Shelves.{on, pool_at, pool_cell}
 use Rattle.record_rule.proofs.Lists.{map_at}
-use Rattle.record_rule.proofs.Owned.{share_of, seen_by, unseen_by}
+use Rattle.record_rule.proofs.Owned.{seen_by, unseen_by}
 use Rattle.record_rule.proofs.CountingPlaces.{bit, count_cons}
 use Rattle.record_rule.proofs.ShelfCells.{Took, came_off, stayed_on, TookAll, is_on_cell}
 

@@ -1,32 +1,29 @@
 -- Records before and after all of one shelf came to a caller: where they are, and what that caller knows of them. A chain that is put on a shelf is the same the other way.
-use Rattle.std.proofs.Common.{◌≡◌, ◌≢◌, ℕ, zero, suc, ◌+◌, ◌-◌, ◌<◌, ◌≤◌, List, [], ◌∷◌, length, length-set, map, get_or, set, All, Bool, true, false, cond, eqb, Option, Some, None, sym, refl, ap, ◌∙◌, subst, arith, get_or-take}
+use Rattle.std.proofs.Common.{◌≡◌, ◌≢◌, ℕ, zero, suc, ◌+◌, ◌-◌, ◌<◌, ◌≤◌, List, [], ◌∷◌, length-set, map, get_or, set, All, Bool, true, cond, eqb, Option, Some, None, sym, refl, ap, ◌∙◌, subst, arith}
 use Rattle.std.specs.List.{count_by}
-use Rattle.std.proofs.lemmas.Bool.{eqb-true, eqb-false, eq-eqb}
+use Rattle.std.proofs.lemmas.Bool.{eq-eqb}
 use Rattle.std.proofs.lemmas.List.{length-map}
-use mathlib.Core.Option.{some, some-injective, some-ne-none}
-use lib.ListN.{get_elem?}
+use mathlib.Core.Option.{some}
 use Rattle.atomic_table.proofs.Lists.{at_map}
 use Rattle.record_memory.specs.declared.steps.Word.TheVariants.{Shelf}
 use Rattle.record_memory.specs.declared.books.Setup.{Setup}
 use Rattle.record_memory.specs.declared.books.Book.{Book}
-use Rattle.record_memory.specs.declared.books.Share.{Share}
 use Rattle.record_memory.specs.declared.books.Standing.TheVariants.{Free}
 use Rattle.record_memory.specs.declared.books.Place.{Place}
-use Rattle.record_memory.specs.declared.books.Place.TheVariants.{Undrawn, Root, Linked, Shelved, Of}
+use Rattle.record_memory.specs.declared.books.Place.TheVariants.{Shelved}
 use Rattle.record_memory.specs.Memory.{Memory, put}
 use Rattle.row_words.specs.Refs.{RefParts}
 use Rattle.row_words.specs.Packing.{link_in, ref_in}
 use Rattle.record_rule.specs.Records.{Record, share_at, share}
 use Rattle.record_rule.specs.Facts.{At}
 use Rattle.record_rule.specs.Kinds.{is_idle}
-use Rattle.record_rule.specs.Counts.{CountsFit}
-use Rattle.record_rule.specs.Shelves.{PoolCell, off, on, pool_at, pool_cell, IsNamed, HasChain, ShelvesFit}
-use Rattle.record_rule.specs.World.{BookFits, Places, overshoot}
-use Rattle.record_rule.proofs.Lists.{below_at, at_below, one_at, get_at, map_at}
+use Rattle.record_rule.specs.Shelves.{on, pool_at, pool_cell, HasChain}
+use Rattle.record_rule.specs.World.{Places, overshoot}
+use Rattle.record_rule.proofs.Lists.{below_at, at_below, get_at, map_at}
 use Rattle.record_rule.proofs.Owned.{share_of}
 use Rattle.record_rule.proofs.Quiet.{same_overshoot, past_before, books_after}
 use Rattle.record_rule.proofs.Fields.{left_same}
-use Rattle.record_rule.proofs.ShelfCells.{is_on_cell, TookAll, shelves_took, shelves_gave, chain_count}
+use Rattle.record_rule.proofs.ShelfCells.{shelves_took, shelves_gave, chain_count}
 use Rattle.record_rule.proofs.OffShelf.{IsOff, came, kept, off_shelf, is_off, off_undrawn, off_sound, on_sound, off_records, off_rows, off_shares, off_cells, count_idle}
 
 -- what a cell on a shelf says of its record

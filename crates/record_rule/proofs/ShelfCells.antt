@@ -1,13 +1,12 @@
 -- Shelves, as their words see the records: all records of one shelf come off it at once, and what was so of the other shelves is.
-use Rattle.std.proofs.Common.{◌≡◌, ◌≢◌, ℕ, zero, suc, ◌+◌, ◌-◌, ◌<◌, ◌⊎◌, List, [], ◌∷◌, length, length-set, set, get_or, get_or-set_same, get_or-set_other, All, AllPairs, Bool, true, false, cond, eqb, Option, Some, None, sym, refl, ap, ◌∙◌, subst, arith, ⊎_elim, inl, inr}
+use Rattle.std.proofs.Common.{◌≡◌, ◌≢◌, ℕ, zero, suc, ◌+◌, ◌-◌, ◌<◌, List, [], ◌∷◌, length, length-set, set, get_or, AllPairs, Bool, true, false, eqb, Option, Some, None, sym, refl, ap, ◌∙◌, subst, arith, ⊎_elim, inl, inr}
 use Rattle.std.specs.List.{count_by}
-use Rattle.std.proofs.lemmas.Bool.{eqb-true, eqb-false, eq-eqb}
+use Rattle.std.proofs.lemmas.Bool.{eqb-true, eq-eqb}
 use native.Mathlib.Decide.{ℕ_discrete}
 use mathlib.Core.Option.{some, some-injective, some-ne-none}
-use lib.ListN.{get_elem?}
-use Rattle.atomic_table.proofs.Lists.{at_set, set_here, set_else}
+use Rattle.atomic_table.proofs.Lists.{at_set, set_else}
 use Rattle.row_words.specs.Refs.{RefParts}
-use Rattle.row_words.specs.Packing.{packed_ref, ref_in}
+use Rattle.row_words.specs.Packing.{ref_in}
 use Rattle.record_rule.specs.Facts.{At}
 use Rattle.record_rule.specs.Shelves.{PoolCell, off, on, ChainOn, IsNamed, HasChain, IsBare, ShelfFits, ShelvesFit}
 use Rattle.record_rule.proofs.Lists.{below_at, at_below, one_at, get_at, got_set, counts_less}

@@ -1,39 +1,35 @@
 -- The swap of a shelf for 0: what stood there comes to the caller.
-use Rattle.std.proofs.Common.{◌≡◌, ◌≢◌, ℕ, zero, suc, ◌+◌, ◌-◌, ◌*◌, ◌/◌, ◌%◌, ◌^◌, ◌<◌, ◌≤◌, List, [], ◌∷◌, length, length-set, map, take, get_or, set, All, Bool, true, false, cond, eqb, Option, Some, None, sym, refl, ap, ◌∙◌, subst, arith, get_or-take, inl, inr}
+use Rattle.std.proofs.Common.{◌≡◌, ◌≢◌, ℕ, ◌+◌, ◌-◌, ◌/◌, ◌%◌, ◌^◌, ◌<◌, List, [], ◌∷◌, length, length-set, map, take, get_or, set, Bool, true, false, cond, eqb, Option, Some, None, sym, refl, ap, ◌∙◌, subst, arith, get_or-take, inl, inr}
 use Rattle.std.specs.List.{count_by}
-use Rattle.std.proofs.lemmas.Bool.{eqb-true, eqb-false}
+use Rattle.std.proofs.lemmas.Bool.{eqb-true}
 use Rattle.std.proofs.lemmas.List.{length-take-le}
 use native.Mathlib.Decide.{ℕ_discrete}
 use mathlib.Core.Option.{some}
 use lib.ListN.{get_elem?}
 use Rattle.atomic_table.specs.Table.{State}
-use Rattle.atomic_table.proofs.Lists.{at_map}
-use Rattle.record_memory.specs.declared.steps.Word.{Word}
 use Rattle.record_memory.specs.declared.steps.Word.TheVariants.{Shelf}
 use Rattle.record_memory.specs.declared.steps.StepKind.TheVariants.{Swap}
 use Rattle.record_memory.specs.declared.steps.Step.{Step}
 use Rattle.record_memory.specs.declared.books.Setup.{Setup}
 use Rattle.record_memory.specs.declared.books.View.{View}
 use Rattle.record_memory.specs.declared.books.Book.{Book}
-use Rattle.record_memory.specs.declared.books.Share.{Share}
 use Rattle.record_memory.specs.declared.books.Standing.TheVariants.{Free}
-use Rattle.record_memory.specs.declared.books.Place.{Place}
-use Rattle.record_memory.specs.declared.books.Place.TheVariants.{Undrawn, Root, Shelved, Of}
-use Rattle.record_memory.specs.Memory.{Memory, memory, address, put}
+use Rattle.record_memory.specs.declared.books.Place.TheVariants.{Undrawn, Root, Shelved}
+use Rattle.record_memory.specs.Memory.{Memory, memory, put}
 use Rattle.record_memory.proofs.Stores.{stores, loads}
-use Rattle.row_words.specs.Refs.{RefParts, IsRef}
+use Rattle.row_words.specs.Refs.{RefParts}
 use Rattle.row_words.specs.Packing.{packed_ref, ref_in, link_in}
 use Rattle.record_rule.specs.Records.{IsSetup, Record, share}
-use Rattle.record_rule.specs.Inputs.{shape_cell, guard_of, notes_of, roots_of, locks_of, answered_of, offer_of, Outline, outline}
+use Rattle.record_rule.specs.Inputs.{guard_of, notes_of, roots_of, locks_of, answered_of, offer_of, Outline}
 use Rattle.record_rule.specs.Facts.{At, ShapeFacts, CoverFacts}
 use Rattle.record_rule.specs.Counts.{CountsFit, drawn_by, reused_by, retired_by, freed_by}
-use Rattle.record_rule.specs.Kinds.{share_in, idle, advanced, made_step, is_idle, Lawful}
-use Rattle.record_rule.specs.ChainRows.{row_in, row_of_share, OwnsChain}
+use Rattle.record_rule.specs.Kinds.{share_in, idle, made_step, is_idle, Lawful}
+use Rattle.record_rule.specs.ChainRows.{row_in, row_of_share}
 use Rattle.record_rule.specs.Links.{with_step}
 use Rattle.record_rule.specs.Shelves.{PoolCell, on, pool_cell, ChainOn, HasChain, ShelfFits}
-use Rattle.record_rule.specs.Shelving.{shelf_step, IsSparable, LeadsIn, HasFreeChain, KeepsBut, TookChain, ToldTake}
-use Rattle.record_rule.specs.World.{Places, Parts, Rule, overshoot}
-use Rattle.record_rule.proofs.Lists.{below_at, at_below, get_at, map_set_same}
+use Rattle.record_rule.specs.Shelving.{shelf_step, IsSparable, LeadsIn, TookChain, ToldTake}
+use Rattle.record_rule.specs.World.{Places, Parts, Rule}
+use Rattle.record_rule.proofs.Lists.{below_at, map_set_same}
 use Rattle.record_rule.proofs.Owned.{share_of}
 use Rattle.record_rule.proofs.Quiet.{calm_after}
 use Rattle.record_rule.proofs.Counts.{sum_set}
@@ -66,6 +62,15 @@ first_of cells k head (r ∷ rs) c many = (r, c.0, refl)
 -- The callers' moves of records are as many with the records elsewhere
 pub counts_beside : (first : ℕ) (c k d : ℕ) (records : List Record) (books : List Book) (b own : Book) → At books d b → own.moves ≡ b.moves → CountsFit first records books → CountsFit first (off_records c k records) (set books d own)
 counts_beside first c k d records books b own at same h = record {
+  drawn = let e = sum_set drawn_by books d b own at in let f : own.moves.drawn ≡ b.moves.drawn = ap (λ m. m.drawn) same in let g = h.drawn in let x = sum_drawn c k records in omega arith;
+  reused = let e = sum_set reused_by books d b own at in let f : own.moves.reused ≡ b.moves.reused = ap (λ m. m.reused) same in let g = h.reused in let x = sum_lives c k first records in omega arith;
+  retired = let e = sum_set retired_by books d b own at in let f : own.moves.retired ≡ b.moves.retired = ap (λ m. m.retired) same in let g = h.retired in let x = sum_retired c k first records in omega arith;
+  freed = let e = sum_set freed_by books d b own at in let f : own.moves.freed ≡ b.moves.freed = ap (λ m. m.freed) same in let g = h.freed in let x = sum_freed c k first records in omega arith;
+}
+
+-- and as many the other way
+pub counts_given : (first : ℕ) (c k d : ℕ) (records : List Record) (books : List Book) (b own : Book) → At books d b → own.moves ≡ b.moves → CountsFit first (off_records c k records) books → CountsFit first records (set books d own)
+counts_given first c k d records books b own at same h = record {
   drawn = let e = sum_set drawn_by books d b own at in let f : own.moves.drawn ≡ b.moves.drawn = ap (λ m. m.drawn) same in let g = h.drawn in let x = sum_drawn c k records in omega arith;
   reused = let e = sum_set reused_by books d b own at in let f : own.moves.reused ≡ b.moves.reused = ap (λ m. m.reused) same in let g = h.reused in let x = sum_lives c k first records in omega arith;
   retired = let e = sum_set retired_by books d b own at in let f : own.moves.retired ≡ b.moves.retired = ap (λ m. m.retired) same in let g = h.retired in let x = sum_retired c k first records in omega arith;
@@ -214,7 +219,7 @@ module _ (shape : ShapeFacts) (cover : CoverFacts) (setup : Setup) (ok : IsSetup
       by (yes e) = let n : ℕ = get_or s.words (4 + k) 0 in let t : Step = shelf_step v Swap k n 0 in (
         made_step v t,
         subst (λ (z : ℕ). Rule shape cover setup record { words = set s.words (4 + k) z; homes = s.homes; views = set s.views id (made_step v t) }) e
-        (kept_calm shape cover setup s u id v at present (4 + k) t (no_field setup v.own.caller t refl (inr (inl refl)) (λ i f q. cc)) (λ q. let none : ⊥ = cc in absurd none) tt),
+            (kept_calm shape cover setup s u id v at present (4 + k) t (no_field setup v.own.caller t refl (inr (inl refl)) (λ i f q. cc)) (λ q. let none : ⊥ = cc in absurd none) tt),
         inl (e, refl),
       )
       by (no ne) = let n : ℕ = get_or s.words (4 + k) 0 in let chain = full_shelf (map pool_cell u.records) k n (shelf_fits shape cover setup ok s u id v at present same k below) ne in let first = first_of (map pool_cell u.records) k (ref_in n) chain.refs chain.leads chain.many in (
