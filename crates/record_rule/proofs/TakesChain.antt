@@ -17,13 +17,13 @@ use Rattle.record_memory.specs.declared.books.Standing.TheVariants.{Free}
 use Rattle.record_memory.specs.declared.books.Place.TheVariants.{Undrawn, Root, Shelved}
 use Rattle.record_memory.specs.Memory.{Memory, memory, put}
 use Rattle.record_memory.proofs.Stores.{stores, loads}
-use Rattle.row_words.specs.Refs.{RefParts}
+use Rattle.row_words.specs.Refs.{RefParts, IsRef}
 use Rattle.row_words.specs.Packing.{packed_ref, ref_in, link_in}
 use Rattle.record_rule.specs.Records.{IsSetup, Record, share}
 use Rattle.record_rule.specs.Inputs.{guard_of, notes_of, roots_of, locks_of, answered_of, offer_of, Outline}
 use Rattle.record_rule.specs.Facts.{At, ShapeFacts, CoverFacts}
 use Rattle.record_rule.specs.Counts.{CountsFit, drawn_by, reused_by, retired_by, freed_by}
-use Rattle.record_rule.specs.Kinds.{share_in, idle, made_step, is_idle, Lawful}
+use Rattle.record_rule.specs.Kinds.{share_in, idle, advanced, made_step, is_idle, Lawful}
 use Rattle.record_rule.specs.ChainRows.{row_in, row_of_share}
 use Rattle.record_rule.specs.Links.{with_step}
 use Rattle.record_rule.specs.Shelves.{PoolCell, on, pool_cell, ChainOn, HasChain, ShelfFits}
@@ -162,24 +162,26 @@ module _ (shape : ShapeFacts) (cover : CoverFacts) (setup : Setup) (ok : IsSetup
     leads_in head (r ∷ rs) l = (l.0, subst (λ (z : Option RefParts). LeadsIn w z rs) (sym (next_known r l.2 l.1 (gained r l.2 l.3))) (leads_in l.2 rs l.4))
 
     -- this is what the caller knows then
-    took : (r : RefParts) → ref_in n ≡ Some r → At chain.refs 0 r → TookChain v k n w
-    took r is first = record {
-      head = r;
-      refs = chain.refs;
-      is_ref = (each_sparable 0 r first).owns.is_ref;
-      named = sym (ref_packs n) ∙ ap packed_ref is;
-      chain = record {
-        leads = subst (λ (z : Option RefParts). LeadsIn w z chain.refs) is (leads_in (ref_in n) chain.refs chain.leads);
-        many = chain.many;
-        distinct = chain.distinct;
-        free = all_at (IsSparable w) chain.refs each_sparable;
-      };
-      had = all_at (λ (q : RefParts). share_in v q.index ≡ None) chain.refs (λ j q a. let e = chain_each k (map pool_cell u.records) (ref_in n) chain.refs chain.leads j q a in (gained q e.1 e.2).had);
-      others = λ i apart. off_other c k u.records (ref_in n) chain first_root i apart ∙ ap (λ l. get_or l (i - 1) None) (sym mine_is);
-      more = idle_more;
-      mine = map (share c) after;
-      view = refl;
-    }
+    took : (r : RefParts) → ref_in n ≡ Some r → At chain.refs 0 r → (head : RefParts) × IsRef head × (n ≡ packed_ref (Some head)) × TookChain v k head w
+    took r is first = let named : n ≡ packed_ref (Some r) = sym (ref_packs n) ∙ ap packed_ref is in (
+      r,
+      (each_sparable 0 r first).owns.is_ref,
+      named,
+      record {
+        refs = chain.refs;
+        chain = record {
+          leads = subst (λ (z : Option RefParts). LeadsIn w z chain.refs) is (leads_in (ref_in n) chain.refs chain.leads);
+          many = chain.many;
+          distinct = chain.distinct;
+          free = all_at (IsSparable w) chain.refs each_sparable;
+        };
+        had = all_at (λ (q : RefParts). share_in v q.index ≡ None) chain.refs (λ j q a. let e = chain_each k (map pool_cell u.records) (ref_in n) chain.refs chain.leads j q a in (gained q e.1 e.2).had);
+        others = λ i apart. off_other c k u.records (ref_in n) chain first_root i apart ∙ ap (λ l. get_or l (i - 1) None) (sym mine_is);
+        more = idle_more;
+        mine = map (share c) after;
+        view = ap (λ (z : ℕ). advanced v (shelf_step v Swap k z 0) (map (share c) after)) named;
+      },
+    )
       where
         each_sparable : (j : ℕ) (q : RefParts) → At chain.refs j q → IsSparable w q
         each_sparable j q a = let e = chain_each k (map pool_cell u.records) (ref_in n) chain.refs chain.leads j q a in sparable q e.1 e.0 (gained q e.1 e.2)
@@ -220,7 +222,7 @@ module _ (shape : ShapeFacts) (cover : CoverFacts) (setup : Setup) (ok : IsSetup
         made_step v t,
         subst (λ (z : ℕ). Rule shape cover setup record { words = set s.words (4 + k) z; homes = s.homes; views = set s.views id (made_step v t) }) e
             (kept_calm shape cover setup s u id v at present (4 + k) t (no_field setup v.own.caller t refl (inr (inl refl)) (λ i f q. cc)) (λ q. let none : ⊥ = cc in absurd none) tt),
-        inl (e, refl),
+        inl (e, ap (λ (z : ℕ). made_step v (shelf_step v Swap k z 0)) e),
       )
       by (no ne) = let n : ℕ = get_or s.words (4 + k) 0 in let chain = full_shelf (map pool_cell u.records) k n (shelf_fits shape cover setup ok s u id v at present same k below) ne in let first = first_of (map pool_cell u.records) k (ref_in n) chain.refs chain.leads chain.many in (
         w shape cover setup ok s u id v at present same k below,

@@ -38,23 +38,20 @@ pub record HasFreeChain (v : View) (head : RefParts) (refs : List RefParts) : Ty
 abbrev pub KeepsBut : List RefParts → View → View → Type 0
 KeepsBut refs v w = (i : ℕ) → All (λ (r : RefParts). r.index ≢ i) refs → share_in w i ≡ share_in v i
 
--- a swap of shelf k for 0 that found n, the reference of the first record of a chain: its records are the caller's, as free ones, and the caller had none of them
-pub record TookChain (v : View) (k n : ℕ) (w : View) : Type 0 where
-  pub head : RefParts
+-- a swap of shelf k for 0 that found the reference of the first record of a chain: its records are the caller's, as free ones, and the caller had none of them
+pub record TookChain (v : View) (k : ℕ) (head : RefParts) (w : View) : Type 0 where
   pub refs : List RefParts
-  pub is_ref : IsRef head
-  pub named : n ≡ packed_ref (Some head)
   pub chain : HasFreeChain w head refs
   pub had : All (λ (r : RefParts). share_in v r.index ≡ None) refs
   pub others : KeepsBut refs v w
   pub more : idle w.own ≡ idle v.own + 32
   -- nothing else that it knows changes
   pub mine : List (Option Share)
-  pub view : w ≡ advanced v (shelf_step v Swap k n 0) mine
+  pub view : w ≡ advanced v (shelf_step v Swap k (packed_ref (Some head)) 0) mine
 
--- what a swap tells that found n
+-- what a swap tells that found n: nothing, or a chain
 abbrev pub ToldTake : View → ℕ → ℕ → View → Type 0
-ToldTake v k n w = ((n ≡ 0) × (w ≡ made_step v (shelf_step v Swap k n 0))) ⊎ TookChain v k n w
+ToldTake v k n w = ((n ≡ 0) × (w ≡ made_step v (shelf_step v Swap k 0 0))) ⊎ ((head : RefParts) × IsRef head × (n ≡ packed_ref (Some head)) × TookChain v k head w)
 
 -- an exchange of shelf k from 0 to the reference of the first record of a chain of the caller's: its records are the caller's no more
 pub record GaveChain (v : View) (k : ℕ) (head : RefParts) (refs : List RefParts) (w : View) : Type 0 where

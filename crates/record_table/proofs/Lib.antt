@@ -11,3 +11,4 @@ pub mod InTable
 pub mod LinkWords
 pub mod Stamping
 pub mod Sending
+pub mod ShelfSteps
