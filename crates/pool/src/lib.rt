@@ -6,6 +6,7 @@
 #![tactic(auto)]
 
 mod no_pool;
+mod shelf_pool;
 
 ghost use Rattle.std.specs.Prelude.{◌≡◌, ℕ, List};
 ghost use Rattle.record_memory.specs.declared.steps.Step.{Step};
@@ -13,6 +14,7 @@ ghost use Rattle.record_table.specs.Handles.{view, IsPassOf, IsSamePass};
 ghost use Rattle.pool.specs.Calls.{IsFull, Takes, Gives};
 
 pub use no_pool::NoPool;
+pub use shelf_pool::ShelfPool;
 use record_table::{Cover, Pass, Shape, Table};
 use row_words::Chain;
 
