@@ -14,9 +14,9 @@ ghost use Rattle.record_table.specs.Handles.{view, IsPassOf, IsSamePass};
 ghost use Rattle.pool.specs.Calls.{IsFull, Takes, Gives};
 
 pub use no_pool::NoPool;
-pub use shelf_pool::ShelfPool;
 use record_table::{Cover, Pass, Shape, Table};
 use row_words::Chain;
+pub use shelf_pool::ShelfPool;
 
 /// What `Pool::take` answers.
 #[derive(Debug, PartialEq, Eq, Drop)]
