@@ -17,3 +17,5 @@ mod one_caller;
 mod reclaimed;
 #[cfg(test)]
 mod refusals;
+#[cfg(test)]
+mod shelves;

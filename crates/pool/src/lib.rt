@@ -6,6 +6,7 @@
 #![tactic(auto)]
 
 mod no_pool;
+mod shelf_pool;
 
 ghost use Rattle.std.specs.Prelude.{◌≡◌, ℕ, List};
 ghost use Rattle.record_memory.specs.declared.steps.Step.{Step};
@@ -15,6 +16,7 @@ ghost use Rattle.pool.specs.Calls.{IsFull, Takes, Gives};
 pub use no_pool::NoPool;
 use record_table::{Cover, Pass, Shape, Table};
 use row_words::Chain;
+pub use shelf_pool::ShelfPool;
 
 /// What `Pool::take` answers.
 #[derive(Debug, PartialEq, Eq, Drop)]

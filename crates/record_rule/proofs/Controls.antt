@@ -30,6 +30,7 @@ use Rattle.record_rule.proofs.Locks.{locks_hidden}
 use Rattle.record_rule.proofs.Waiting.{waits_hidden, waits_confirmed}
 use Rattle.record_rule.specs.Laws.{limbo_record, ShapeLaws, CoverLaws, IsSafe, IsThere, ValueIs, moment, with_guard, FreedCells, HiddenCells, IsHidden, HasLoaded, HasCleared, KeepsHidden}
 use Rattle.record_rule.specs.Known.{KnownFits}
+use Rattle.record_rule.specs.Shelves.{PoolCell, pool_at, pool_cell, ShelvesFit}
 use Rattle.record_rule.specs.World.{IsRecent, Places, Parts, Rule, overshoot}
 use Rattle.record_rule.specs.Kinds.{control_load, ShowsBelow, Lawful}
 use Rattle.record_rule.specs.Links.{with_step}
@@ -46,7 +47,7 @@ use Rattle.record_rule.proofs.FreedCounts.{counts_freed}
 use Rattle.record_rule.proofs.Steps.{before, given, book, are_whole, own_behind}
 use Rattle.record_rule.proofs.Safe.{safe}
 use Rattle.record_rule.proofs.Owners.{record_of}
-use Rattle.record_rule.proofs.Freed.{WasFreed, went, stayed, freed_records, each_freed, many_freed, other_shares, own_shares, same_rows, same_takings, hidden_cells, freed_cells, cell_stays}
+use Rattle.record_rule.proofs.Freed.{WasFreed, went, stayed, freed_records, each_freed, many_freed, same_freed, other_shares, own_shares, same_rows, same_takings, hidden_cells, freed_cells, cell_stays}
 
 -- a record that left limbo is as sound
 freed_sound : (setup : Setup) (may : LimboRecord → Bool) (d i : ℕ) (r x : Record) → WasFreed may d i r x → IsSound setup i r → IsSound setup i x
@@ -62,13 +63,13 @@ freed_sound setup may d i r _ (went is free) s = by (eqb r.generation 1048575) r
       generations = λ f h. s.generations f h ∙ ap (λ (p : Place). carried p r.generation f) is ∙ sym (carry f);
       roots = λ h. let none : Root ≡ Of d Limbo = sym (s.roots h) ∙ is in let no_such : ⊥ = cc in absurd no_such;
       no_root = λ q. let none : ⊥ = cc in absurd none;
-      unshelved = λ k q. let none : ⊥ = cc in none;
       unborn = λ q. let none : ⊥ = cc in absurd none;
       blank = λ q. let none : ⊥ = cc in absurd none;
       born = λ _. s.born (λ q. let none : Undrawn ≡ Of d Limbo = sym q ∙ is in let no_such : ⊥ = cc in no_such);
       unfinished = λ c n q. let same : z ≡ Handing n = cc in absurd (handed n same);
       callers = λ c t q. let same : d ≡ c = cc in subst (λ (w : ℕ). w < setup.callers) same (s.callers d Limbo is);
       renewable = λ c q. let same : z ≡ Free = cc in again same;
+      shelved = λ k q. let none : ⊥ = cc in absurd none;
     }
 
     by : (b : Bool) → eqb r.generation 1048575 ≡ b → IsSound setup i (record r { place = Of d (cond b Spent Free) })
@@ -79,6 +80,11 @@ freed_sound setup may d i r _ (stayed k) s = s
 undrawn_same : (may : LimboRecord → Bool) (d i : ℕ) (r x : Record) → WasFreed may d i r x → (r.place ≡ Undrawn → x.place ≡ Undrawn) × (x.place ≡ Undrawn → r.place ≡ Undrawn)
 undrawn_same may d i r _ (went is free) = ((λ q. let none : Undrawn ≡ Of d Limbo = sym q ∙ is in let no_such : ⊥ = cc in absurd no_such), (λ q. let none : ⊥ = cc in absurd none))
 undrawn_same may d i r _ (stayed k) = ((λ q. q), (λ q. q))
+
+-- no shelf sees it
+freed_pool : (may : LimboRecord → Bool) (d i : ℕ) (r x : Record) → WasFreed may d i r x → pool_cell x ≡ pool_cell r
+freed_pool may d i r _ (went is free) = sym (ap (λ (p : Place). pool_at p r) is)
+freed_pool may d i r _ (stayed k) = refl
 
 -- where the records are
 freed_places : (setup : Setup) (records : List Record) (books : List Book) (m : Memory) (may : LimboRecord → Bool) (c : ℕ) (b own : Book) → Places setup records books m → At books c b → own.caller ≡ b.caller → own.mine ≡ freed_from may 0 b.mine → overshoot own ≡ overshoot b
@@ -91,6 +97,7 @@ freed_places setup records books m may c b own p at caller mine weight = let f =
   undrawn = λ i x e q. let y = each_freed may c 0 records i x e in p.undrawn i y.0 y.1 ((undrawn_same may c (0 + i) y.0 x y.2).1 q);
   drawn = subst (λ (z : ℕ). m.drawn ≤ setup.records + z) (sym (same_overshoot books c b own at weight)) p.drawn;
   untouched = p.untouched;
+  shelves = subst (λ (l : List PoolCell). ShelvesFit l m.shelves) (sym (same_freed may c pool_cell records (λ j r x at w. freed_pool may c j r x w))) p.shelves;
   callers = length-set books c own ∙ p.callers;
   books_fit = books_after setup m m records (freed_records may c 0 records) books c own (λ h. h) (λ d ne. other_shares may c d records ne)
       record { number = caller ∙ f.number; mine = mine ∙ ap (freed_from may 0) f.mine ∙ sym (own_shares may c 0 records); past = λ h. f.past (past_before b.drawing own.drawing weight h) } p.books_fit;

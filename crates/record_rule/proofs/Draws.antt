@@ -25,6 +25,7 @@ use Rattle.record_rule.specs.Records.{Record, IsSetup, IsSound, share, share_at,
 use Rattle.record_rule.specs.Inputs.{shape_at, scheme_at, taken_at, untaken}
 use Rattle.record_rule.specs.Facts.{ShapeFacts, CoverFacts}
 use Rattle.record_rule.specs.Recorded.{StepFits}
+use Rattle.record_rule.specs.Shelves.{PoolCell, pool_at, pool_cell, ShelvesFit}
 use Rattle.record_rule.specs.World.{AreUntouched, Parts, IsLeftBy, IsLeft, overshoot_by, overshoot, Places, Rule}
 use Rattle.record_rule.specs.Kinds.{draw_step, drawn_share, drew, drawing_after, share_in, DrewNew, Lawful}
 use Rattle.record_rule.proofs.Lists.{below_at, at_below, get_at, each_set, map_set_same}
@@ -72,7 +73,6 @@ module _ (setup : Setup) (is_setup : IsSetup setup) (bump : setup.allocator ≡ 
     within = is_setup.first;
     roots = λ h. let no : ⊥ = (let e : Undrawn ≡ Root = sym at ∙ s.roots h in cc) in absurd no;
     no_root = λ e. let no : ⊥ = cc in absurd no;
-    unshelved = λ k e. let no : ⊥ = cc in no;
     root_generation = λ e. let none : ⊥ = cc in absurd none;
     unborn = λ e. let no : ⊥ = cc in absurd no;
     blank = λ e. let no : ⊥ = cc in absurd no;
@@ -80,14 +80,14 @@ module _ (setup : Setup) (is_setup : IsSetup setup) (bump : setup.allocator ≡ 
     unfinished = λ d n e. let z : 0 ≡ n = cc in omega arith;
     callers = λ d t e. let z : c ≡ d = cc in omega arith;
     renewable = λ d e. let none : ⊥ = cc in absurd none;
+    shelved = λ k e. let none : ⊥ = cc in absurd none;
   }
 
   -- the words that no step changes are those of another allocator
-  drawn_untouched : (m : Memory) (n : ℕ) → AreUntouched setup m.lock m.blank m.drawn m.shelves m.cursors → AreUntouched setup m.lock m.blank (n + 1) m.shelves m.cursors
+  drawn_untouched : (m : Memory) (n : ℕ) → AreUntouched setup m.lock m.blank m.drawn m.cursors → AreUntouched setup m.lock m.blank (n + 1) m.cursors
   drawn_untouched m n u = record {
     lock_is = u.lock_is;
     blank_is = u.blank_is;
-    shelves_are = u.shelves_are;
     cursors_are = u.cursors_are;
     drawn_is = λ e. let same : Bump ≡ Once = sym bump ∙ e in let none : ⊥ = cc in absurd none;
     cursors_within = u.cursors_within;
@@ -109,6 +109,7 @@ module _ (setup : Setup) (is_setup : IsSetup setup) (bump : setup.allocator ≡ 
             (λ t. left_to m' i (let h = left_from m i (p.undrawn i x t.1 u) in let ne : i ≢ n = t.0 in omega arith)) (at_set records n i new x e);
         drawn = omega arith;
         untouched = drawn_untouched m n p.untouched;
+        shelves = subst (λ (l : List PoolCell). ShelvesFit l m.shelves) (sym (map_set_same pool_cell records n r new there (sym (ap (λ (q : Place). pool_at q r) untouched)))) p.shelves;
         callers = length-set books c own ∙ p.callers;
         books_fit = books_after setup m m' records (set records n new) books c own (λ h. omega arith)
             (λ d ne. map_set_same (share d) records n r new there (unseen_by c d (Handing 0) new refl ne ∙ sym (ap (λ (q : Place). share_at d q r) untouched)))
@@ -133,6 +134,7 @@ module _ (setup : Setup) (is_setup : IsSetup setup) (bump : setup.allocator ≡ 
         undrawn = λ i x e u. let h = left_from m i (p.undrawn i x e u) in let k = below_at records i x e in let l = p.many in absurd (omega arith);
         drawn = let d = p.drawn in omega arith;
         untouched = drawn_untouched m n p.untouched;
+        shelves = p.shelves;
         callers = length-set books c own ∙ p.callers;
         books_fit = books_after setup m m' records records books c own (λ h. omega arith) (λ d ne. refl)
             record { number = caller ∙ f.number; mine = mine ∙ f.mine; past = λ h. omega arith } p.books_fit;

@@ -21,6 +21,7 @@ use Rattle.record_memory.proofs.Stores.{take-set}
 use Rattle.row_words.specs.Packing.{own_in, number_in}
 use Rattle.record_rule.specs.Inputs.{hidden, out, shape_had, unpublished, unretired, limbo, scheme_had, untaken, taken_had}
 use Rattle.record_rule.specs.Records.{Record, IsLinkField, IsSound, known, share, carried, carried_by, IsLinkIn}
+use Rattle.record_rule.specs.Shelves.{PoolCell, pool_at, pool_cell, ShelvesFit}
 use Rattle.record_rule.specs.World.{IsLeftBy, IsLeft, overshoot, Places}
 use Rattle.record_rule.specs.Kinds.{MayStoreAs, EndsHanding, standing_after}
 use Rattle.record_rule.proofs.Lists.{get_at, each_set, got_set, map_set_same}
@@ -43,6 +44,7 @@ places_beside setup records books m epoch announced p = let m' : Memory = record
   undrawn = λ i r e q. left_same setup.allocator setup m m' i refl refl (p.undrawn i r e q);
   drawn = p.drawn;
   untouched = p.untouched;
+  shelves = p.shelves;
   callers = p.callers;
   books_fit = λ c b e. let f = p.books_fit c b e in record { number = f.number; mine = f.mine; past = f.past };
 }
@@ -70,13 +72,13 @@ module _ (setup : Setup) where
     within = sound.within;
     roots = λ h. let none : ⊥ = (let e : Of c s ≡ Root = sym at ∙ sound.roots h in cc) in absurd none;
     no_root = λ e. let none : ⊥ = cc in absurd none;
-    unshelved = λ k e. let none : ⊥ = cc in none;
     root_generation = λ e. let none : ⊥ = cc in absurd none;
     unborn = λ e. let none : ⊥ = cc in absurd none;
     blank = λ e. let none : ⊥ = cc in absurd none;
     born = λ _. sound.born (λ e. let none : ⊥ = (let k : Of c s ≡ Undrawn = sym at ∙ e in cc) in none);
     unfinished = λ d n e. st.unfinished n (let z : t ≡ Handing n = cc in z);
     callers = λ d w e. sound.callers d s (at ∙ (let z : c ≡ d = cc in ap (λ (k : ℕ). Of k s) z));
+    shelved = λ k e. let none : ⊥ = cc in absurd none;
     renewable = λ d e. let is_free : t ≡ Free = cc in sound.renewable c (at ∙ ap (Of c) (st.freed is_free));
   }
 
@@ -95,6 +97,7 @@ module _ (setup : Setup) where
         undrawn = λ j x e u. left_same setup.allocator setup m m' j refl refl (⊎_elim (λ q. let none : ⊥ = (let o : Of c t ≡ Undrawn = ap (λ (y : Record). y.place) q.1 ∙ u in cc) in absurd none) (λ q. p.undrawn j x q.1 u) (at_set records k j new x e));
         drawn = subst (λ (z : ℕ). m.drawn ≤ setup.records + z) (sym (same_overshoot books c b own at weight)) p.drawn;
         untouched = p.untouched;
+        shelves = subst (λ (l : List PoolCell). ShelvesFit l m.shelves) (sym (map_set_same pool_cell records k r new there (sym (ap (λ (q : Place). pool_at q r) is)))) p.shelves;
         callers = length-set books c own ∙ p.callers;
         books_fit = books_after setup m m' records (set records k new) books c own (λ h. h)
             (λ d ne. map_set_same (share d) records k r new there (unseen_by c d t new refl ne ∙ sym (unseen_by c d s r is ne)))

@@ -58,3 +58,9 @@ pub mod CountingTakings
 pub mod Drained
 pub mod TakesFree
 pub mod Makes
+pub mod ShelfCells
+pub mod OffShelf
+pub mod OnShelf
+pub mod TakesChain
+pub mod PutShelf
+pub mod GivesChain

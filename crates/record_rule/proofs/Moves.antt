@@ -18,6 +18,7 @@ use Rattle.row_words.specs.Packing.{own_in, number_in, IsPackedLink}
 use Rattle.record_rule.specs.Records.{Record, IsLinkField, IsSound, share_at, share, carried, IsLinkIn}
 use Rattle.record_rule.specs.Inputs.{ShapeCell, hidden, root, linked, out, shape_at, shape_cell, SchemeCell, unpublished, reachable, unretired, limbo, birth, scheme_at, scheme_cell, TakenCell, untaken, was_taken, taken_at, taken_cell}
 use Rattle.record_rule.specs.Laws.{recelled}
+use Rattle.record_rule.specs.Shelves.{PoolCell, off, pool_at, pool_cell, ShelvesFit}
 use Rattle.record_rule.specs.World.{IsLeft, BookFits, overshoot, Places}
 use Rattle.record_rule.proofs.Lists.{below_at, get_at, each_set, got_set, map_set_same}
 use Rattle.record_rule.proofs.Owned.{share_of, seen_by, unseen_by}
@@ -74,13 +75,22 @@ share_seen d (Of c TakenOut) f value marked r le h = ap (λ (l : List ℕ). cond
 share_seen d (Of c Limbo) f value marked r le h = ap (λ (l : List ℕ). cond (eqb c d) (Some (record { standing = Limbo; generation = r.generation; taken_number = r.taken_number; words = l })) None) (take-set-le 3 r.row f value le)
 share_seen d p f value marked r le h = absurd h
 
+-- no shelf sees a record that a set sees, nor one that may move
+pool_seen : (p : Place) (f value marked : ℕ) (r : Record) → IsSeenOrRoot p → pool_at p (relinked_record f value marked r) ≡ pool_at p r
+pool_seen (Shelved k) f value marked r h = absurd h
+pool_seen p f value marked r h = refl
+
+pool_moved : (p : Place) (r : Record) → IsMovable p → pool_at p r ≡ off
+pool_moved (Shelved k) r h = absurd h
+pool_moved p r h = refl
+
 module _ (setup : Setup) where
   -- after one record changed that stays drawn, or stays undrawn
   pub places_after : (records : List Record) (books books' : List Book) (m : Memory) (rows : List (List ℕ)) (k : ℕ) (r r' : Record) → Places setup records books m → get_elem? records k ≡ some r
-      → (r'.place ≡ Undrawn) ↔ (r.place ≡ Undrawn) → map (λ (x : Record). x.row) (set records k r') ≡ rows → IsSound setup k r' → length books' ≡ length books → sum_by overshoot books' ≡ sum_by overshoot books
+      → (r'.place ≡ Undrawn) ↔ (r.place ≡ Undrawn) → map (λ (x : Record). x.row) (set records k r') ≡ rows → IsSound setup k r' → pool_cell r' ≡ pool_cell r → length books' ≡ length books → sum_by overshoot books' ≡ sum_by overshoot books
       → ((c : ℕ) (b : Book) → get_elem? books' c ≡ some b → BookFits setup (record m { rows = rows }) (set records k r') c b)
       → Places setup (set records k r') books' record m { rows = rows }
-  places_after records books books' m rows k r r' p there drawn are sound many weight fit = let m' : Memory = record m { rows = rows } in record {
+  places_after records books books' m rows k r r' p there drawn are sound unseen many weight fit = let m' : Memory = record m { rows = rows } in record {
     many = length-set records k r' ∙ p.many;
     rows = are;
     sound = each_set (IsSound setup) records k r' p.sound sound;
@@ -88,6 +98,7 @@ module _ (setup : Setup) where
     undrawn = each_set (λ i x. x.place ≡ Undrawn → IsLeft setup m' i) records k r' (λ i x e u. left_same setup.allocator setup m m' i refl refl (p.undrawn i x e u)) (λ u. left_same setup.allocator setup m m' k refl refl (p.undrawn k r there (drawn.0 u)));
     drawn = subst (λ (z : ℕ). m.drawn ≤ setup.records + z) (sym weight) p.drawn;
     untouched = p.untouched;
+    shelves = subst (λ (l : List PoolCell). ShelvesFit l m.shelves) (sym (map_set_same pool_cell records k r r' there unseen)) p.shelves;
     callers = many ∙ p.callers;
     books_fit = fit;
   }
@@ -101,7 +112,6 @@ module _ (setup : Setup) where
     within = s.within;
     roots = s.roots;
     no_root = s.no_root;
-    unshelved = s.unshelved;
     root_generation = s.root_generation;
     unborn = s.unborn;
     blank = λ e. absurd (subst IsSeenOrRoot e seen);
@@ -109,6 +119,7 @@ module _ (setup : Setup) where
     unfinished = s.unfinished;
     callers = s.callers;
     renewable = s.renewable;
+    shelved = s.shelved;
   }
 
   -- after a store of a link of record i
@@ -119,7 +130,7 @@ module _ (setup : Setup) where
       let row : row_at m.rows i ≡ r.row = ap (λ (rs : List (List ℕ)). get_or rs k []) (sym p.rows) ∙ get_at (map (λ (x : Record). x.row) records) k r.row [] (at_map (λ (x : Record). x.row) records k r there) in
       places_after records books books m (put m (Field i f) value).rows k r new p there (λ e. e, λ e. e)
       (map-set (λ (x : Record). x.row) records k new ∙ (λ z. set (p.rows z) k (set (sym row z) f value)))
-      (relinked_sound k f value marked r low high seen own packed (p.sound k r there)) refl refl
+      (relinked_sound k f value marked r low high seen own packed (p.sound k r there)) (pool_seen r.place f value marked r seen) refl refl
       (λ d b e. let fit = p.books_fit d b e in record { number = fit.number; mine = fit.mine ∙ sym (map_set_same (share d) records k r new there (share_seen d r.place f value marked r low seen)); past = fit.past })
 
   -- a record that moves is as sound where it comes to
@@ -131,7 +142,6 @@ module _ (setup : Setup) where
     within = s.within;
     roots = λ h. absurd (subst IsMovable (s.roots h) from);
     no_root = λ q. absurd (subst IsMovable q to);
-    unshelved = λ k q. subst IsMovable q to;
     root_generation = λ q. absurd (subst IsMovable q to);
     unborn = λ q. absurd (subst IsMovable q to);
     blank = λ q. absurd (subst IsMovable q to);
@@ -139,6 +149,7 @@ module _ (setup : Setup) where
     unfinished = λ c k q. absurd (subst IsMovable q to);
     callers = callers;
     renewable = λ c q. absurd (subst IsMovable q to);
+    shelved = λ k q. absurd (subst IsMovable q to);
   }
 
   -- after a move of the record at k that no word shows, and that no other caller sees
@@ -148,7 +159,7 @@ module _ (setup : Setup) where
       → Places setup (set records k (moved_record p n e marked r)) (set books c own) m
   moved_places records books m c k p n e marked b own r u at there from to callers caller mine weight others = let new : Record = moved_record p n e marked r in let book = u.books_fit c b at in
       places_after records books (set books c own) m m.rows k r new u there (λ q. absurd (subst IsMovable q to), λ q. absurd (subst IsMovable q from))
-      (map_set_same (λ (x : Record). x.row) records k r new there refl ∙ u.rows) (moved_sound k p n e marked r from to callers (u.sound k r there)) (length-set books c own) (same_overshoot books c b own at weight)
+      (map_set_same (λ (x : Record). x.row) records k r new there refl ∙ u.rows) (moved_sound k p n e marked r from to callers (u.sound k r there)) (pool_moved p (moved_record p n e marked r) to ∙ sym (pool_moved r.place r from)) (length-set books c own) (same_overshoot books c b own at weight)
       (books_after setup m m records (set records k new) books c own (λ h. h) (λ d ne. map_set_same (share d) records k r new there (others d ne))
       record {
         number = caller ∙ book.number;

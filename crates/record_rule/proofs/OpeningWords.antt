@@ -160,7 +160,6 @@ module _ (setup : Setup) (ok : IsSetup setup) where
     within = ok.first;
     roots = λ _. refl;
     no_root = λ _. h;
-    unshelved = λ k e. let none : ⊥ = cc in none;
     root_generation = λ _. refl;
     unborn = λ e. let none : ⊥ = cc in absurd none;
     blank = λ e. let none : ⊥ = cc in absurd none;
@@ -168,6 +167,7 @@ module _ (setup : Setup) (ok : IsSetup setup) where
     unfinished = λ c n e. let none : ⊥ = cc in absurd none;
     callers = λ c t e. let none : ⊥ = cc in absurd none;
     renewable = λ c e. let none : ⊥ = cc in absurd none;
+    shelved = λ k e. let none : ⊥ = cc in absurd none;
   }
 
   -- and so is each other record
@@ -183,7 +183,6 @@ module _ (setup : Setup) (ok : IsSetup setup) where
     within = let e = ok.first in omega arith;
     roots = λ lt. absurd (omega arith);
     no_root = λ e. let none : ⊥ = cc in absurd none;
-    unshelved = λ k e. let none : ⊥ = cc in none;
     root_generation = λ e. let none : ⊥ = cc in absurd none;
     unborn = λ e. let p = ok.some_first in omega arith;
     blank = λ _. refl;
@@ -191,4 +190,5 @@ module _ (setup : Setup) (ok : IsSetup setup) where
     unfinished = λ c n e. let none : ⊥ = cc in absurd none;
     callers = λ c t e. let none : ⊥ = cc in absurd none;
     renewable = λ c e. let none : ⊥ = cc in absurd none;
+    shelved = λ k e. let none : ⊥ = cc in absurd none;
   }

@@ -1,6 +1,6 @@
 -- The rule holds of the table as it is made.
-use Rattle.std.proofs.Common.{◌≡◌, ℕ, zero, suc, ◌+◌, ◌-◌, ◌*◌, ◌<◌, ◌≤◌, List, [], ◌∷◌, ◌++◌, map, length, take, drop, replicate, length-append, sym, refl, ap, ◌∙◌, subst, arith, ◌⊎◌, ⊎_elim, Option, Some, None, sum_by}
-use Rattle.std.proofs.lemmas.List.{append_assoc, map-append, length-replicate, length-map, take_at, drop_at, drop-replicate, take-replicate, replicate-append-replicate}
+use Rattle.std.proofs.Common.{◌≡◌, ℕ, zero, suc, ◌+◌, ◌-◌, ◌*◌, ◌<◌, ◌≤◌, List, [], ◌∷◌, ◌++◌, map, length, take, drop, replicate, length-append, sym, refl, ap, ◌∙◌, subst, arith, ◌⊎◌, ⊎_elim, inl, Option, Some, None, sum_by, get_or}
+use Rattle.std.proofs.lemmas.List.{append_assoc, map-append, get_or-replicate, length-replicate, length-map, take_at, drop_at, drop-replicate, take-replicate, replicate-append-replicate}
 use native.Mathlib.Nat.{zero-add}
 use mathlib.Core.Option.{some, some-injective, some-ne-none}
 use lib.ListN.{get_elem?}
@@ -25,6 +25,7 @@ use Rattle.record_rule.specs.Known.{KnownFits}
 use Rattle.std.proofs.lemmas.List.Sums.{sum_by-cons, sum_by-append}
 use Rattle.record_rule.specs.Counts.{retired_as, lives_before, was_drawn, times_retired, times_freed, drawn_by, reused_by, retired_by, freed_by, CountsFit}
 use Rattle.record_rule.specs.Retirements.{retirements, retired_at, RetirementsFit}
+use Rattle.record_rule.specs.Shelves.{off, on, pool_cell, ShelvesFit}
 use Rattle.record_rule.specs.World.{IsRecent, AreUntouched, carries, BookFits, SeatFits, Places, Parts, Rule}
 use Rattle.record_rule.specs.Opening.{opening_words, first_book, first_books, first_view, blank_note, root_record, blank_record, opening_records, opening_books}
 use Rattle.record_rule.specs.Locks.{LocksFit}
@@ -75,15 +76,30 @@ module _ (setup : Setup) (ok : IsSetup setup) (first : Guard) where
       ∙ take_at (replicate setup.callers 0) (rest setup) setup.callers (length-replicate setup.callers 0)
 
   -- and so are the pool's words
-  untouched : AreUntouched setup m.lock m.blank m.drawn m.shelves m.cursors
+  untouched : AreUntouched setup m.lock m.blank m.drawn m.cursors
   unfolding memory
   untouched = record {
     lock_is = zero_at setup 2 (omega arith) (omega arith);
     blank_is = zero_at setup 3 (omega arith) (omega arith);
-    shelves_are = ap (stretch 4 16) parted;
     cursors_are = λ _. cursors_are;
     drawn_is = λ _. refl;
     cursors_within = λ _ c n at. let e = (at_replicate setup.callers c 0 n (ap (λ (l : List ℕ). get_elem? l c) (sym cursors_are) ∙ at)).1 in omega arith;
+  }
+
+  -- no record is on a shelf
+  bare : (i k generation : ℕ) (next : Option RefParts) → ¬ At (map pool_cell (opening_records setup)) i (on k generation next)
+  bare i k generation next at = let x = map_at pool_cell (opening_records setup) i (on k generation next) at in let none : ⊥ = ⊎_elim
+      (λ q. let e : off ≡ on k generation next = ap pool_cell q.1 ∙ x.2 in let no : ⊥ = cc in no) (λ q. let e : off ≡ on k generation next = ap pool_cell q.1 ∙ x.2 in let no : ⊥ = cc in no) (a_record i x.0 x.1) in none
+
+  shelves_are : m.shelves ≡ replicate 16 0
+  unfolding memory
+  shelves_are = ap (stretch 4 16) parted
+
+  shelves_fit : ShelvesFit (map pool_cell (opening_records setup)) m.shelves
+  shelves_fit = record {
+    many = ap length shelves_are;
+    each = λ k lt. inl (ap (λ (l : List ℕ). get_or l k 0) shelves_are ∙ get_or-replicate 16 k 0 0 lt, λ i generation next. bare i k generation next);
+    few = λ i k generation next at. absurd (bare i k generation next at);
   }
 
   -- the rows are the last words
@@ -102,6 +118,7 @@ module _ (setup : Setup) (ok : IsSetup setup) (first : Guard) where
     undrawn = λ i r e u. ⊎_elim (λ q. let none : ⊥ = (let z : Root ≡ Undrawn = ap (λ (x : Record). x.place) q.1 ∙ u in cc) in absurd none) (λ q. left_opening setup setup.allocator i q.0) (a_record i r e);
     drawn = let d = drawn_is in let f = ok.rooted in omega arith;
     untouched = untouched;
+    shelves = shelves_fit;
     callers = length-books setup first 0 setup.callers;
     books_fit = λ c b e. let q = at_books setup first 0 setup.callers c b e in let z : first_book setup first c ≡ b = ap (first_book setup first) (sym (zero-add c)) ∙ q.1 in
         subst (BookFits setup m (opening_records setup) c) z record { number = refl; mine = mine_is setup c ok.rooted; past = λ h. let none : ⊥ = cc in absurd none };

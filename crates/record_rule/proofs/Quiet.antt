@@ -147,6 +147,7 @@ places_calm setup records books m c b own at caller mine weight p = let f = p.bo
   undrawn = p.undrawn;
   drawn = subst (λ (z : ℕ). m.drawn ≤ setup.records + z) (sym (same_overshoot books c b own at weight)) p.drawn;
   untouched = p.untouched;
+  shelves = p.shelves;
   callers = length-set books c own ∙ p.callers;
   books_fit = books_after setup m m records records books c own (λ h. h) (λ d ne. refl)
       record { number = caller ∙ f.number; mine = mine ∙ f.mine; past = λ h. f.past (past_before b.drawing own.drawing weight h) } p.books_fit;

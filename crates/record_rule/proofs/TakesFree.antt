@@ -23,6 +23,7 @@ use Rattle.record_rule.specs.Records.{Record, carried, IsSound, IsLinkIn, share}
 use Rattle.record_rule.specs.Inputs.{shape_at, shape_cell, scheme_at, scheme_cell, TakenCell, untaken, was_taken, taken_at, taken_cell, guard_of, notes_of, roots_of, locks_of, answered_of, offer_of, Outline, outline}
 use Rattle.record_rule.specs.Facts.{At, ShapeFacts, CoverFacts}
 use Rattle.record_rule.specs.Taken.{generation_of, IsTakenAs, TakenFits}
+use Rattle.record_rule.specs.Shelves.{pool_at}
 use Rattle.record_rule.specs.World.{Places, Parts, Rule, overshoot}
 use Rattle.record_rule.specs.Kinds.{reused_one, field_load, share_in, is_idle, idle, Lawful}
 use Rattle.record_rule.specs.HandingOut.{HasDrawn}
@@ -87,7 +88,6 @@ module _ (setup : Setup) where
     within = let below = s.renewable c at in omega arith;
     roots = λ h. let none : ⊥ = (let e : Of c Free ≡ Root = sym at ∙ s.roots h in cc) in absurd none;
     no_root = λ e. let none : ⊥ = cc in absurd none;
-    unshelved = λ k e. let none : ⊥ = cc in none;
     root_generation = λ e. let none : ⊥ = cc in absurd none;
     unborn = λ e. let none : ⊥ = cc in absurd none;
     blank = λ e. let none : ⊥ = cc in absurd none;
@@ -95,6 +95,7 @@ module _ (setup : Setup) where
     unfinished = λ d n e. let z : 0 ≡ n = cc in omega arith;
     callers = λ d t e. s.callers d Free (at ∙ (let z : c ≡ d = cc in ap (λ (x : ℕ). Of x Free) z));
     renewable = λ d e. let none : ⊥ = cc in absurd none;
+    shelved = λ k e. let none : ⊥ = cc in absurd none;
   }
 
   -- its life before ended, and one more was begun anew
@@ -109,7 +110,7 @@ module _ (setup : Setup) where
   renewed_places records books m c k b own r p at there is caller mine weight = let new : Record = renewed_record c r in let f = p.books_fit c b at in
       places_after setup records books (set books c own) m m.rows k r new p there
       (λ e. let none : ⊥ = cc in absurd none, λ e. let none : ⊥ = (let two : Of c Free ≡ Undrawn = sym is ∙ e in cc) in absurd none)
-      (map_set_same (λ (x : Record). x.row) records k r new there refl ∙ p.rows) (renewed_sound k c r is (p.sound k r there)) (length-set books c own) (same_overshoot books c b own at weight)
+      (map_set_same (λ (x : Record). x.row) records k r new there refl ∙ p.rows) (renewed_sound k c r is (p.sound k r there)) (sym (ap (λ (q : Place). pool_at q r) is)) (length-set books c own) (same_overshoot books c b own at weight)
       (books_after setup m m records (set records k new) books c own (λ h. h)
       (λ d ne. map_set_same (share d) records k r new there (unseen_by c d (Handing 0) new refl ne ∙ sym (unseen_by c d Free r is ne)))
       record {

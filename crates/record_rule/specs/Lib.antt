@@ -2,6 +2,7 @@ pub mod Records
 pub mod Inputs
 pub mod Machines
 pub mod Facts
+pub mod Shelves
 pub mod Walks
 pub mod Laws
 pub mod Frozen
@@ -29,6 +30,7 @@ pub mod Placing
 pub mod ControlSteps
 pub mod Freeing
 pub mod TakesFree
+pub mod Shelving
 pub mod Makes
 pub mod Beginnings
 pub mod Splits

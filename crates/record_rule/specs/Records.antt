@@ -90,8 +90,6 @@ pub record IsSound (setup : Setup) (i : ℕ) (r : Record) : Type 0 where
   -- the roots are the first records and never move
   pub roots : i < setup.roots → r.place ≡ Root
   pub no_root : r.place ≡ Root → i < setup.roots
-  -- no pool has any
-  pub unshelved : (k : ℕ) → r.place ≢ Shelved k
   pub root_generation : r.place ≡ Root → r.generation ≡ setup.first
   -- a record that was never handed out has the generation before the first one
   pub unborn : r.place ≡ Undrawn → r.generation + 1 ≡ setup.first
@@ -102,3 +100,5 @@ pub record IsSound (setup : Setup) (i : ℕ) (r : Record) : Type 0 where
   pub callers : (c : ℕ) (s : Standing) → r.place ≡ Of c s → c < setup.callers
   -- a free record is below the last generation, 1,048,575, so it can be handed out again
   pub renewable : (c : ℕ) → r.place ≡ Of c Free → r.generation < 1048575
+  -- and so is one on a shelf
+  pub shelved : (k : ℕ) → r.place ≡ Shelved k → r.generation < 1048575

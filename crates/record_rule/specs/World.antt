@@ -21,6 +21,7 @@ use Rattle.record_memory.specs.declared.books.Note.{Note}
 use Rattle.record_memory.specs.declared.books.Answered.{Answered}
 use Rattle.record_rule.specs.Inputs.{Outline, outline, shape_input, scheme_input, trace}
 use Rattle.record_rule.specs.Facts.{At, ShapeFacts, CoverFacts}
+use Rattle.record_rule.specs.Shelves.{pool_cell, ShelvesFit}
 use Rattle.record_rule.specs.Taken.{TakenFits}
 use Rattle.record_rule.specs.Held.{HeldFits}
 use Rattle.record_rule.specs.Known.{KnownFits}
@@ -90,11 +91,10 @@ pub record SeatFits (setup : Setup) (books : List Book) (seats : List ℕ) (take
   -- it noted what its callers' guards and notes speak of
   pub recent : (p : ℕ) (b : Book) → At (carries v) p b → IsRecent (length v.seen_updates) (length v.seen_taken_out) b.guard b.notes
 
--- what no step breaks: nothing changes the words of the pool, which the table doesn't have yet, nor those that its allocator doesn't use, and a caller draws within its range
-pub record AreUntouched (setup : Setup) (lock blank drawn : ℕ) (shelves cursors : List ℕ) : Type 0 where
+-- what no step breaks: nothing changes the lock of the pool nor the words that the table's allocator doesn't use, and a caller draws within its range
+pub record AreUntouched (setup : Setup) (lock blank drawn : ℕ) (cursors : List ℕ) : Type 0 where
   pub lock_is : lock ≡ 0
   pub blank_is : blank ≡ 0
-  pub shelves_are : shelves ≡ replicate 16 0
   pub cursors_are : setup.allocator ≡ Bump → cursors ≡ replicate setup.callers 0
   pub drawn_is : setup.allocator ≡ Once → drawn ≡ setup.roots
   pub cursors_within : setup.allocator ≡ Once → (c n : ℕ) → At cursors c n → n ≤ range setup
@@ -109,7 +109,9 @@ module _ (setup : Setup) (records : List Record) (books : List Book) where
     pub undrawn : (i : ℕ) (r : Record) → get_elem? records i ≡ some r → r.place ≡ Undrawn → IsLeft setup m i
     -- the number of records drawn passes the number of records by at most 1 for each caller
     pub drawn : m.drawn ≤ setup.records + sum_by overshoot books
-    pub untouched : AreUntouched setup m.lock m.blank m.drawn m.shelves m.cursors
+    pub untouched : AreUntouched setup m.lock m.blank m.drawn m.cursors
+    -- the chains on the shelves of the pool
+    pub shelves : ShelvesFit (map pool_cell records) m.shelves
     pub callers : length books ≡ setup.callers
     pub books_fit : (c : ℕ) (b : Book) → get_elem? books c ≡ some b → BookFits setup m records c b
 

@@ -12,3 +12,4 @@ pub mod ReachSteps
 pub mod LinkWords
 pub mod Stamping
 pub mod Sending
+pub mod ShelfSteps

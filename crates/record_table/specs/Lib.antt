@@ -5,3 +5,4 @@ pub mod Made
 pub mod Closing
 pub mod Nodes
 pub mod ToldLinks
+pub mod ToldShelves

@@ -49,6 +49,8 @@ mod retiring;
 mod reuse;
 // Calls: a caller's rows, for chains through them.
 mod rows;
+// Calls: steps on the shelves of the pool.
+mod shelves;
 
 pub use closing::Closed;
 pub use hand_out::Own;

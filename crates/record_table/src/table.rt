@@ -33,7 +33,7 @@ pub struct Table<S: Shape, R: Cover> {
 // costs nothing.
 impl<S: Shape, R: Cover> Table<S, R> {
     ghost use Rattle.std.specs.Prelude.{◌≡◌, ℕ, ◌+◌, ◌%◌, ◌^◌, ◌<◌, ◌==◌, if◌then◌else◌};
-    ghost use Rattle.record_memory.specs.declared.steps.StepKind.TheVariants.{Load, Store, Add, Exchange};
+    ghost use Rattle.record_memory.specs.declared.steps.StepKind.TheVariants.{Load, Store, Swap, Add, Exchange};
     ghost use Rattle.record_memory.specs.Memory.{size, word_at};
     ghost use Rattle.record_rule.specs.Kinds.{Lawful};
     ghost use Rattle.record_table.specs.Handles.{setup_of, rule, view, seat_of, IsPassOf, IsSamePass};
@@ -69,6 +69,20 @@ impl<S: Shape, R: Cover> Table<S, R> {
         self.board
             .shared
             .store::<Stores<M>>(&mut pass.seat, word, value);
+    }
+
+    pub(crate) fn swap<M: Tells>(&self, pass: &mut Pass<S, R>, word: usize, value: u64) -> u64
+        requires pass { IsPassOf self.now pass.old }
+        requires word { word < size (setup_of self.now).callers (setup_of self.now).records }
+        requires lawful { Lawful (rule S.facts R.facts self.now) (seat_of pass.old) (view pass.old) word (λ _. value) (M.tells (view pass.old)) }
+        requires recorded { Records Swap (word_at (setup_of self.now).callers word) (λ _. value) M.tells (view pass.old) }
+        ensures pass { IsSamePass pass.old pass.new }
+        ensures told { M.tells (view pass.old) result (view pass.new) }
+        ensures recorded { Adds Swap (word_at (setup_of self.now).callers word) result value (view pass.old) (view pass.new) }
+    {
+        self.board
+            .shared
+            .swap::<Telling<M>>(&mut pass.seat, word, value)
     }
 
     pub(crate) fn add<M: Tells>(&self, pass: &mut Pass<S, R>, word: usize, more: u64) -> u64

@@ -26,6 +26,7 @@ use Rattle.list_facts.specs.ClosedLists.{IsListSet}
 use Rattle.list_facts.proofs.ListEnds.{closed_lists}
 use Rattle.record_pieces.specs.Hands.{is_in_hand, in_hand}
 use Rattle.manager.proofs.CallerSums.{callers_had}
+use Rattle.manager.proofs.Sums.{moves_add_up}
 use Rattle.set_api.specs.declared.answer.Answer.{Answer}
 use Rattle.set_api.specs.Hands.{LeavesNoneInHand}
 use Rattle.set_runs.specs.Runs.{IsSetRun}
@@ -83,17 +84,6 @@ hand_bits (Of c Spent) = refl
 hand_sum : (l : List Record) → count_in (is_had is_in_hand) l ≡ count_in (is_had is_handing) l + count_in (is_had is_own) l + count_in (is_had is_taken_out) l
 hand_sum [] = refl
 hand_sum (r ∷ rs) = omega (arith, hand_sum rs, hand_bits r.place, in_cons (is_had is_in_hand) r rs, in_cons (is_had is_handing) r rs, in_cons (is_had is_own) r rs, in_cons (is_had is_taken_out) r rs)
-
--- no pool has a record
-not_shelved : (p : Place) → ((k : ℕ) → p ≢ Shelved k) → is_shelved p ≡ false
-not_shelved Undrawn none = refl
-not_shelved Root none = refl
-not_shelved Linked none = refl
-not_shelved (Shelved k) none = absurd (none k refl)
-not_shelved (Of c s) none = refl
-
-pub none_shelved : (setup : Setup) (records : List Record) (books : List Book) (m : Memory) → Places setup records books m → count_in is_shelved records ≡ 0
-none_shelved setup records books m p = first_ones (λ (r : Record). is_shelved r.place) records 0 (omega arith) (λ i r at less. absurd (omega (arith, less))) (λ i r at more. not_shelved r.place (p.sound i r at).unshelved)
 
 -- the generations that a record had before this one
 lives_are : (first : ℕ) (r : Record) (p : Place) → (p ≡ Undrawn → r.generation + 1 ≡ first) → r.generation - first ≡ generation_of (taken_at p r) - first
@@ -179,12 +169,11 @@ module _ {s : ShapeFacts} {c : CoverFacts} {steps : Setup → Call → ℕ → A
       drawn_sum records,
       none_in_hand,
       hand_sum records,
-      none_shelved k records (closed_books closed) _ run.fits.placed,
       callers_had is_limbo k records (closed_books closed) _ run.fits.placed,
       callers_had is_free k records (closed_books closed) _ run.fits.placed,
       callers_had is_spare k records (closed_books closed) _ run.fits.placed,
       callers_had is_spent k records (closed_books closed) _ run.fits.placed,
     );
-    freed = omega (arith, run.moves.sums.freed, none_shelved k run.moves.records (closed_books closed) _ run.moves.placed);
+    freed = omega (arith, (moves_add_up k records (closed_books closed) _ run.fits.placed m).freed);
     limbo = run.moves.sums.limbo;
   }

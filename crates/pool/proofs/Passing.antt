@@ -1,0 +1,106 @@
+-- Shelves that a call looked at and passed by.
+use Rattle.std.proofs.Common.{◌≡◌, ℕ, zero, suc, ◌+◌, ◌<◌, List, [], ◌∷◌, ◌++◌, length, All, Option, sym, refl, ap, ◌∙◌, subst, arith}
+use Rattle.std.proofs.lemmas.List.{append-nil, append_assoc, map-append}
+use Rattle.std.proofs.lemmas.List.Elements.{All-nil, All-cons, All-append, All-weaker}
+use mathlib.Core.Option.{some}
+use lib.ListN.{get_elem?}
+use Rattle.record_memory.specs.declared.steps.Step.{Step}
+use Rattle.record_memory.specs.declared.steps.Word.TheVariants.{Shelf}
+use Rattle.record_memory.specs.declared.books.Share.{Share}
+use Rattle.record_memory.specs.declared.books.Drawing.{Drawing}
+use Rattle.record_memory.specs.declared.books.View.{View}
+use Rattle.record_rule.specs.Kinds.{idle, made_step}
+use Rattle.record_rule.specs.Makes.{Makes}
+use Rattle.pool.specs.Calls.{Leaves, EndsWith}
+use Rattle.pool.specs.Looks.{Look, look, seen_as, looks_in, shelves_from, shelves_of, AreFirst}
+
+-- the looks of two lists of steps
+pub looks_append : (a b : List Step) → looks_in (a ++ b) ≡ looks_in a ++ looks_in b
+looks_append [] b = refl
+looks_append (t ∷ ts) b = ap (λ (l : List Look). seen_as t.kind t.word t.found ++ l) (looks_append ts b) ∙ sym (append_assoc (seen_as t.kind t.word t.found) (looks_in ts) (looks_in b))
+
+-- one shelf more
+next_shelf : (from k : ℕ) → shelves_from from (suc k) ≡ shelves_from from k ++ (from + k) ∷ []
+next_shelf from zero = ap (λ (z : ℕ). z ∷ []) (let e : from ≡ from + 0 = omega arith in e)
+next_shelf from (suc k) = ap (λ (l : List ℕ). from ∷ l) (next_shelf (from + 1) k ∙ ap (λ (z : ℕ). shelves_from (from + 1) k ++ z ∷ []) (let e : from + 1 + k ≡ from + suc k = omega arith in e))
+
+pub shelves_more : (k : ℕ) → shelves_from 0 (k + 1) ≡ shelves_from 0 k ++ k ∷ []
+shelves_more k = ap (shelves_from 0) (let e : k + 1 ≡ suc k = omega arith in e) ∙ next_shelf 0 k ∙ ap (λ (z : ℕ). shelves_from 0 k ++ z ∷ []) (let e : 0 + k ≡ k = omega arith in e)
+
+-- The first k shelves were looked at once, in order, and each was found so. Nothing that is known of records changed
+pub record Passed (P : ℕ → Type 0) (k : ℕ) (v w : View) : Type 0 where
+  pub steps : List Step
+  pub drawing : Drawing
+  pub view : w ≡ record v { own = record v.own { steps = v.own.steps ++ steps; drawing = drawing } }
+  pub shelves : shelves_of (looks_in steps) ≡ shelves_from 0 k
+  pub found : All (λ (l : Look). P l.found) (looks_in steps)
+
+module _ (P : ℕ → Type 0) where
+  pub passed_none : (v : View) → Passed P 0 v v
+  passed_none v = record { steps = []; drawing = v.own.drawing; view = ap (λ (l : List Step). record v { own = record v.own { steps = l } }) (sym (append-nil v.own.steps)); shelves = refl; found = All-nil (λ (l : Look). P l.found) }
+
+  -- one more
+  pub passed_more : (k n : ℕ) (v w x : View) (t : Step) → Passed P k v w → x ≡ made_step w t → seen_as t.kind t.word t.found ≡ look k n ∷ [] → P n → Passed P (k + 1) v x
+  passed_more k n v w x t p is sees here = record {
+    steps = p.steps ++ t ∷ [];
+    drawing = (made_step w t).own.drawing;
+    view = is ∙ ap (λ (z : View). record z { own = record z.own { steps = z.own.steps ++ t ∷ []; drawing = (made_step w t).own.drawing } }) p.view
+        ∙ ap (λ (l : List Step). record v { own = record v.own { steps = l; drawing = (made_step w t).own.drawing } }) (append_assoc v.own.steps p.steps (t ∷ []));
+    shelves = ap shelves_of (looks_more p.steps t k n sees) ∙ map-append (λ (l : Look). l.shelf) (looks_in p.steps) (look k n ∷ []) ∙ ap (λ (l : List ℕ). l ++ k ∷ []) p.shelves ∙ sym (shelves_more k);
+    found = subst (All (λ (l : Look). P l.found)) (sym (looks_more p.steps t k n sees)) (All-append (λ (l : Look). P l.found) (looks_in p.steps) (look k n ∷ []) p.found (All-cons (λ (l : Look). P l.found) (look k n) [] here (All-nil (λ (l : Look). P l.found))));
+  }
+    where
+      looks_more : (steps : List Step) (t : Step) (k n : ℕ) → seen_as t.kind t.word t.found ≡ look k n ∷ [] → looks_in (steps ++ t ∷ []) ≡ looks_in steps ++ look k n ∷ []
+      looks_more steps t k n sees = looks_append steps (t ∷ []) ∙ ap (λ (l : List Look). looks_in steps ++ l) (append-nil (seen_as t.kind t.word t.found) ∙ sees)
+
+-- after the last one
+module _ (P : ℕ → Type 0) (k : ℕ) (v w : View) (p : Passed P k v w) where
+  pub passed_mine : w.own.mine ≡ v.own.mine
+  passed_mine = ap (λ (z : View). z.own.mine) p.view
+
+  pub passed_makes : Makes v w p.steps
+  passed_makes = subst (λ (z : View). Makes v z p.steps) (sym p.view) record { appended = refl; rest = refl; retired = refl; freed = refl }
+
+  pub passed_moves : w.own.moves ≡ v.own.moves
+  passed_moves = ap (λ (z : View). z.own.moves) p.view
+
+  pub passed_idle : idle w.own ≡ idle v.own
+  unfolding idle
+  passed_idle = ap (λ (z : View). idle z.own) p.view
+
+-- a further step that is a look at the next shelf, and found something else there
+module _ (P : ℕ → Type 0) (k n : ℕ) (v w x : View) (p : Passed P k v w) (t : Step) (mine : List (Option Share)) (drawing : Drawing)
+    (is : x ≡ record w { own = record w.own { steps = w.own.steps ++ t ∷ []; mine = mine; drawing = drawing } }) (sees : seen_as t.kind t.word t.found ≡ look k n ∷ []) where
+  abbrev pub steps : List Step
+  steps = p.steps ++ t ∷ []
+
+  pub last_makes : Makes v x steps
+  last_makes = let e : x ≡ record v { own = record v.own { steps = v.own.steps ++ steps; mine = mine; drawing = drawing } } = is
+      ∙ ap (λ (z : View). record z { own = record z.own { steps = z.own.steps ++ t ∷ []; mine = mine; drawing = drawing } }) p.view
+      ∙ ap (λ (l : List Step). record v { own = record v.own { steps = l; mine = mine; drawing = drawing } }) (append_assoc v.own.steps p.steps (t ∷ [])) in
+      subst (λ (z : View). Makes v z steps) (sym e) record { appended = refl; rest = refl; retired = refl; freed = refl }
+
+  pub last_moves : x.own.moves ≡ v.own.moves
+  last_moves = ap (λ (z : View). z.own.moves) is ∙ passed_moves P k v w p
+
+  pub last_looks : looks_in steps ≡ looks_in p.steps ++ look k n ∷ []
+  last_looks = looks_append p.steps (t ∷ []) ∙ ap (λ (l : List Look). looks_in p.steps ++ l) (append-nil (seen_as t.kind t.word t.found) ∙ sees)
+
+  pub last_first : k < 16 → AreFirst 16 (looks_in steps)
+  last_first below = record {
+    count = k + 1;
+    within = omega arith;
+    first = ap shelves_of last_looks ∙ map-append (λ (l : Look). l.shelf) (looks_in p.steps) (look k n ∷ []) ∙ ap (λ (l : List ℕ). l ++ k ∷ []) p.shelves ∙ sym (shelves_more k);
+  }
+
+  -- and only it did
+  abbrev pub last_ends : (Q : ℕ → Type 0) → ((m : ℕ) → P m → ¬ Q m) → Q n → EndsWith (looks_in steps) Q
+  last_ends Q none here = record { earlier = looks_in p.steps; last = look k n; all = last_looks; here = here; not_before = All-weaker (λ (l : Look). P l.found) (λ (l : Look). ¬ (Q l.found)) (λ l h. none l.found h) (looks_in p.steps) p.found }
+
+  -- what it left there
+  pub last_leaves : (value : ℕ) → t.word ≡ Shelf k → t.left ≡ value → Leaves steps k value
+  last_leaves value word left = (length p.steps, t, at_end p.steps t, word, left)
+    where
+      at_end : (l : List Step) (t : Step) → get_elem? (l ++ t ∷ []) (length l) ≡ some t
+      at_end [] t = refl
+      at_end (y ∷ ys) t = at_end ys t
