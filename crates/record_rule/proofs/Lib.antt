@@ -61,6 +61,7 @@ pub mod Makes
 pub mod ShelfCells
 pub mod OffShelf
 pub mod OnShelf
+pub mod ShelfRetirements
 pub mod TakesChain
 pub mod PutShelf
 pub mod GivesChain

@@ -83,19 +83,21 @@ retires_none first before after t quiet = stored_none first before after t (λ i
 abbrev pub MayLeave : StepKind → Type 0
 MayLeave Load = Unit {0}
 MayLeave Store = ⊥
-MayLeave Swap = ⊥
+MayLeave Swap = Unit {0}
 MayLeave Add = ⊥
 MayLeave Exchange = Unit {0}
 
 -- after such a step no caller has newly gone past the last record
 pub leaving_calm : (k : StepKind) → MayLeave k → IsCalm k
 leaving_calm Load h = tt
+leaving_calm Swap h = tt
 leaving_calm Exchange h = tt
 leaving_calm k h = absurd h
 
 -- and it stores nothing
 pub leaving_quiet : (k : StepKind) → MayLeave k → is_store k ≡ false
 leaving_quiet Load h = refl
+leaving_quiet Swap h = refl
 leaving_quiet Exchange h = refl
 leaving_quiet k h = absurd h
 
