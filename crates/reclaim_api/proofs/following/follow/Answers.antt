@@ -1,4 +1,4 @@
-use Rattle.std.proofs.Common.{◌≡◌, ap, sym, ◌∙◌, refl, arith}
+use Rattle.std.proofs.Common.{ap, sym, ◌∙◌, refl, arith}
 use Rattle.row_words.specs.Refs.{LinkParts}
 use Rattle.record_table.specs.Nodes.{origin}
 use Rattle.reclaim_api.specs.declared.following.Reached.TheVariants.{Null, Held}
