@@ -1,5 +1,5 @@
 -- What a caller holds and knows once it followed a link, under a reclaimer by which it then holds at once what the link leads to.
-use Rattle.std.proofs.Common.{◌≡◌, ℕ, ◌-◌, ◌+◌, ◌<◌, ◌≤◌, List, length, get_or, Bool, true, false, ◌&&◌, sym, ap, ◌∙◌, subst, refl, Option, Some, None}
+use Rattle.std.proofs.Common.{◌≡◌, ℕ, ◌+◌, ◌<◌, ◌≤◌, length, get_or, Bool, true, false, ◌&&◌, sym, ap, ◌∙◌, subst, refl, Option, Some, None}
 use Rattle.std.proofs.lemmas.Bool.{and_right}
 use Rattle.std.proofs.lemmas.List.{length-map}
 use Rattle.record_memory.specs.declared.books.View.{View}
