@@ -6,7 +6,7 @@ use Rattle.set_model.specs.declared.calls.InsertAnswer.{InsertAnswer}
 use Rattle.set_model.specs.declared.calls.InsertAnswer.TheVariants.{Done, Full, Again}
 use Rattle.record_memory.specs.declared.books.Book.{Book}
 use Rattle.record_memory.specs.declared.books.Setup.{Setup}
-use Rattle.row_words.specs.Refs.{RefParts, LinkParts}
+use Rattle.row_words.specs.Refs.{RefParts}
 use Rattle.record_rule.specs.Facts.{At}
 use Rattle.record_rule.proofs.Lists.{at_append}
 use Rattle.record_pieces.specs.Manners.{Manner}
@@ -15,7 +15,7 @@ use Rattle.record_pieces.specs.Events.{Event, begun, took, gave_back, placed, re
 use Rattle.record_pieces.specs.Trails.{Trail}
 use Rattle.record_pieces.proofs.Stock.{AllKeep, keeps_one, keeps_all, parts}
 use Rattle.record_pieces.proofs.Spares.{IsSame, KeepsOthers, takes_others, aside_kept, keep_at}
-use Rattle.set_calls.specs.Spares.{LeavesSpare, GivesBack}
+use Rattle.set_calls.specs.Spares.{GivesBack}
 use Rattle.michael_list.specs.declared.spots.Spot.{Spot}
 use Rattle.michael_list.specs.Walks.{Finds}
 use Rattle.michael_list.specs.Pieces.{HasRecord, Insertings, Inserts, back, links}
