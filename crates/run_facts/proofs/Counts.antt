@@ -1,5 +1,5 @@
 -- After a run on a set whose calls leave no record in their caller's hand, the callers' moves are what the rows and the history show.
-use Rattle.std.proofs.Common.{◌≡◌, ◌≢◌, ℕ, zero, suc, ◌+◌, ◌-◌, List, [], ◌∷◌, false, refl, sym, ◌∙◌, arith}
+use Rattle.std.proofs.Common.{◌≡◌, ℕ, zero, suc, ◌+◌, ◌-◌, List, [], ◌∷◌, refl, sym, ◌∙◌, arith}
 use Rattle.std.specs.List.{sum_by}
 use Rattle.std.proofs.lemmas.List.Sums.{sum_by-cons}
 use Rattle.set_model.specs.declared.calls.Call.{Call}
@@ -10,7 +10,6 @@ use Rattle.record_memory.specs.declared.books.Place.{Place}
 use Rattle.record_memory.specs.declared.books.Place.TheVariants.{Undrawn, Root, Linked, Shelved, Of}
 use Rattle.record_memory.specs.declared.books.Setup.{Setup}
 use Rattle.record_memory.specs.declared.books.Standing.TheVariants.{Handing, Own, Spare, TakenOut, Limbo, Free, Spent}
-use Rattle.record_memory.specs.Memory.{Memory}
 use Rattle.record_rule.specs.Counts.{drawn_as, retired_as, was_drawn, times_retired, lives_before}
 use Rattle.record_rule.specs.Facts.{At, ShapeFacts, CoverFacts}
 use Rattle.record_rule.specs.Inputs.{taken_at, taken_cell}
@@ -18,8 +17,7 @@ use Rattle.record_rule.specs.PlaceCounts.{count_in, drawn_in, reused_in}
 use Rattle.record_rule.specs.Records.{Record}
 use Rattle.record_rule.specs.Standings.{is_linked, is_shelved, is_had, is_handing, is_own, is_spare, is_taken_out, is_limbo, is_free, is_spent}
 use Rattle.record_rule.specs.Taken.{generation_of}
-use Rattle.record_rule.specs.World.{Places}
-use Rattle.record_rule.proofs.CountingPlaces.{bit, in_cons, first_ones}
+use Rattle.record_rule.proofs.CountingPlaces.{bit, in_cons}
 use Rattle.record_table.specs.Closing.{closed_books, closed_setup}
 use Rattle.record_table.specs.declared.closing.Closed.{Closed}
 use Rattle.list_facts.specs.ClosedLists.{IsListSet}
