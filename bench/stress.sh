@@ -3,19 +3,22 @@
 # 1,000 without reclamation, 250 each with 2, 4, 16 and 64 callers. `stress.sh debra` plays 900 under DEBRA, 300 each with 2,
 # 4 and 16 callers, on few records more than there are keys, so that most insertions use a record again; `stress.sh hazard`
 # as many with hazard pointers, where each caller may keep six records for each caller, and `stress.sh 2geibr` as many under
-# 2GEIBR, where it may keep sixteen. Sizes, seeds, phases, buckets and records vary with the workload's number, and each run
-# of this script plays the same ones. README.md, beside this file, says more.
+# 2GEIBR, where it may keep sixteen. `stress.sh debra shelves`, and so for the other two, plays 200 in which half of the
+# callers only insert and the others only remove, so that records come back by the pool's shelves alone. Sizes, seeds,
+# phases, buckets and records vary with the workload's number, and each run of this script plays the same ones. README.md,
+# beside this file, says more.
 #
 # It prints what it judged, and ends with status 1 at the first report that is refused, whose workload, words and report
 # it keeps and names. It wants bash, awk and rustc, and `rt` in PATH where the proved program has to be built.
 set -eu
 
-reclaimer=${1-none}
-case $reclaimer in
-none) runs=1000 ;;
-debra | hazard | 2geibr) runs=900 ;;
+reclaimer=${1-none} kind=${2-all}
+case $reclaimer/$kind in
+none/all) runs=1000 ;;
+debra/all | hazard/all | 2geibr/all) runs=900 ;;
+debra/shelves | hazard/shelves | 2geibr/shelves) runs=200 ;;
 *)
-    echo "usage: stress.sh [none|debra|hazard|2geibr]" >&2
+    echo "usage: stress.sh [none|debra|hazard|2geibr] | stress.sh debra|hazard|2geibr shelves" >&2
     exit 2
     ;;
 esac
@@ -76,8 +79,43 @@ few_records() {
     draw 8 && records=$((buckets + keys + callers * (drawn + 2 + bag)))
 }
 
+# by_shelves: sets the sizes of the workload with this number, in which half of the callers only insert and the others only
+# remove. Beside the buckets and the keys there are as many records as those that remove may keep: 63 free ones each, and
+# what waits in limbo.
+by_shelves() {
+    local by_number=(2 4 8)
+    callers=${by_number[$((number % 3))]}
+    draw 4 && local totals=(2000 4000 8000 16000)
+    calls=$((totals[drawn] / callers))
+    draw 3 && local sizes=(50 100 200)
+    keys=${sizes[$drawn]}
+    draw 3 && local tables=(4 16 64)
+    buckets=${tables[$drawn]}
+    phase=0
+    draw 8 && records=$((buckets + keys + callers / 2 * (63 + 6 * callers + 16 + 8 * drawn)))
+}
+
+# one_way: writes the workload in which callers with an even number insert keys at random and the others remove some.
+one_way() {
+    awk -v callers="$callers" -v calls="$calls" -v keys="$keys" -v seed="$number" '
+        BEGIN {
+            srand(seed)
+            print "setbench 1"
+            print "callers " callers
+            for (caller = 0; caller < callers; caller++) {
+                print "caller " caller
+                for (call = 0; call < calls; call++) print (caller % 2 ? "r " : "i ") int(rand() * keys)
+            }
+            print "end"
+        }' >"$workload"
+}
+
 # plan: sets the words and the sizes of the workload with this number.
 plan() {
+    if [ "$kind" = shelves ]; then
+        by_shelves
+        return
+    fi
     if [ "$reclaimer" != none ]; then
         few_records
         return
@@ -101,7 +139,9 @@ for ((number = 0; number < runs; number++)); do
     plan
     generate=(generate --callers "$callers" --calls "$calls" --keys "$keys" --seed "$number" --shared yes)
     play=(play --set michael --reclaimer "$reclaimer" --buckets "$buckets" --records "$records")
-    if [ "$phase" = 0 ]; then
+    if [ "$kind" = shelves ]; then
+        one_way
+    elif [ "$phase" = 0 ]; then
         "$program" "${generate[@]}" >"$workload"
     else
         "$program" "${generate[@]}" | in_phases "$phase"
@@ -124,7 +164,7 @@ awk '
     { runs++; phased += $1 > 0; for (at = 3; at < NF; at += 2) of[$at] += $(at + 1); by[$4]++
       whole += /whole yes/; turn += /in_turn yes/; bare += / full [1-9]/; again += / reused [1-9]/ }
     END {
-        print "judged " runs ": callers 2 " by[2] ", 4 " by[4] ", 16 " by[16] ", 64 " by[64] + 0 "; with phases " phased
+        print "judged " runs ": callers 2 " by[2] ", 4 " by[4] ", 8 " by[8] + 0 ", 16 " by[16] + 0 ", 64 " by[64] + 0 "; with phases " phased
         print "replies " of["calls"] ", full " of["full"] " in " bare " runs; spare records " of["spare"] ", marked ones " of["marked"]
         print "records used again " of["reused"] " times, in " again + 0 " runs"
         print "keys searched " of["searched"] ", only counted " of["counted"] "; all calls together ordered in " whole " runs"
