@@ -11,7 +11,7 @@ loop-k-preserved c =
     let k = c.loop-k.k in
     let word = get_or (closed_words closed) (4 + k) 0 in
     c.sum_of-found.ensures (sum_by chain_in (take k (shelf_words closed))) (chain_in word) c.loop-k.invariant
-    (c.chain_of.ensures ∙ ap (λ ws. chain_in (get_or ws (4 + k) 0)) c.words-words.ensures ∙ chain_shown word)
+    (c.chain_of.ensures ∙ ap (λ i. chain_in (get_or c.words-words.result.now i 0)) c.shelf.ensures ∙ ap (λ ws. chain_in (get_or ws (4 + k) 0)) c.words-words.ensures ∙ chain_shown word)
     ∙ ap shown (shelf_more closed k c.loop-k-test.true)
 
 pub returns : goal.returns
