@@ -30,6 +30,7 @@ use Rattle.set_api.specs.Hands.{LeavesNoneInHand}
 use Rattle.set_runs.specs.Runs.{IsSetRun}
 use Rattle.run_facts.specs.Counts.{ShowsMoves}
 use Rattle.run_facts.proofs.Hands.{run_hands_free}
+use Rattle.run_facts.proofs.Shelved.{on_shelves_are}
 use Rattle.run_facts.proofs.Unreclaimed.{sum_zero}
 
 -- what a place counts for where it is drawn
@@ -154,7 +155,7 @@ module _ {s : ShapeFacts} {c : CoverFacts} {steps : Setup → Call → ℕ → A
   none_handing = omega (arith, none_in_hand, hand_sum records)
 
   pub counts_fit : IsListSet s → ShowsMoves closed
-  counts_fit list_set = let l = closed_lists list_set run.fits in let f = run.fits.counted in let m = run.fits.moved in record {
+  counts_fit list_set = let l = closed_lists list_set run.fits in let f = run.fits.counted in let m = run.fits.moved in let shelved = on_shelves_are closed records (closed_books closed) run.fits.placed in record {
     records = records;
     taken_out = run.fits.taken_out;
     lists = l;
@@ -171,7 +172,8 @@ module _ {s : ShapeFacts} {c : CoverFacts} {steps : Setup → Call → ℕ → A
       callers_had is_free k records (closed_books closed) _ run.fits.placed,
       callers_had is_spare k records (closed_books closed) _ run.fits.placed,
       callers_had is_spent k records (closed_books closed) _ run.fits.placed,
+      shelved,
     );
-    freed = omega (arith, (moves_add_up k records (closed_books closed) _ run.fits.placed m).freed);
+    freed = omega (arith, (moves_add_up k records (closed_books closed) _ run.fits.placed m).freed, shelved);
     limbo = run.moves.sums.limbo;
   }

@@ -9,5 +9,6 @@ pub mod Unreclaimed
 pub mod Drawing
 pub mod NeverFull
 pub mod Hands
+pub mod Shelved
 pub mod Counts
 pub mod Totals

@@ -1,8 +1,8 @@
 -- The counts of a run are sums that are small: a table's records and their generations are few.
-use Rattle.std.proofs.Common.{◌≡◌, ℕ, suc, ◌*◌, ◌<◌, ◌≤◌, ◌^◌, List, [], ◌∷◌, length, Bool, true, false, refl, sym, ◌∙◌, subst, arith}
+use Rattle.std.proofs.Common.{◌≡◌, ℕ, suc, ◌+◌, ◌*◌, ◌<◌, ◌≤◌, ◌^◌, List, [], ◌∷◌, length, Bool, true, false, refl, sym, ap, ◌∙◌, subst, arith}
 use Rattle.std.specs.List.{AllByRecursion, sum_by}
 use Rattle.std.proofs.lemmas.List.Elements.{All-from_recursion}
-use Rattle.std.proofs.lemmas.List.Sums.{sum_by-cons}
+use Rattle.std.proofs.lemmas.List.Sums.{sum_by-cons, count_by-le-length}
 use Rattle.set_model.specs.declared.calls.Call.{Call}
 use Rattle.set_model.specs.declared.calls.Counts.{Counts}
 use Rattle.set_model.specs.declared.calls.Reply.{Reply}
@@ -16,7 +16,7 @@ use Rattle.record_rule.specs.Counts.{drawn_as, left_as, retired_had, freed_had, 
 use Rattle.record_rule.specs.Facts.{At, ShapeFacts, CoverFacts}
 use Rattle.record_rule.specs.PlaceCounts.{count_in}
 use Rattle.record_rule.specs.Records.{Record}
-use Rattle.record_rule.specs.Standings.{is_had, is_limbo, is_free, is_spare, is_spent}
+use Rattle.record_rule.specs.Standings.{is_shelved, is_had, is_limbo, is_free, is_spare, is_spent}
 use Rattle.record_rule.proofs.CountingPlaces.{bit}
 use Rattle.record_table.specs.Closing.{closed_books, closed_setup}
 use Rattle.record_table.specs.declared.closing.Closed.{Closed}
@@ -26,7 +26,9 @@ use Rattle.manager.proofs.CallerSums.{callers_had}
 use Rattle.manager.proofs.ChainCounts.{shown_below}
 use Rattle.set_api.specs.declared.answer.Answer.{Answer}
 use Rattle.set_runs.specs.Runs.{IsSetRun}
+use Rattle.set_runs.specs.Totals.{on_shelves}
 use Rattle.run_facts.specs.Counts.{AreSumsOf}
+use Rattle.run_facts.proofs.Shelved.{on_shelves_are}
 
 few_drawn : (p : Place) → drawn_as p ≤ 1
 few_drawn Undrawn = omega arith
@@ -101,14 +103,32 @@ module _ {s : ShapeFacts} {c : CoverFacts} {steps : Setup → Call → ℕ → A
   had_sum : (test : Standing → Bool) → sum_by (had test) books ≡ count_in (is_had test) records
   had_sum test = callers_had test k records books _ run.fits.placed
 
-  pub counts_exact : AreSumsOf counts books
-  counts_exact = let t = run.counts_are in let m = run.fits.moved in record {
-    drawn = exact _ _ _ t.drawn m.drawn (below was_drawn (λ r within. omega (arith, few_drawn r.place)));
-    reused = exact _ _ _ t.reused m.reused (below (lives_before k.first) (λ r within. omega (arith, within)));
-    retired = exact _ _ _ t.retired m.retired retired_below;
-    freed = exact _ _ _ t.freed m.freed (below (times_freed k.first) (λ r within. omega (arith, within, few_left freed_had few_freed r.place)));
-    limbo = exact _ _ _ (t.limbo (All-from_recursion (λ b. b.moves.retired < 2 ^ 64) books (each_below retired_by (2 ^ 64) books (subst (λ n. n < 2 ^ 64) (sym m.retired) retired_below)))) (had_sum is_limbo) (had_below is_limbo);
-    free = exact _ _ _ t.free (had_sum is_free) (had_below is_free);
-    spare = exact _ _ _ t.spare (had_sum is_spare) (had_below is_spare);
-    spent = exact _ _ _ t.spent (had_sum is_spent) (had_below is_spent);
+  free_exact : run.totals.free ≡ sum_by (had is_free) books
+  free_exact = exact _ _ _ run.totals_are.free (had_sum is_free) (had_below is_free)
+
+  -- the free records of all callers and those on shelves are different ones, so they too are few
+  all_free : run.totals.free + on_shelves closed < 2 ^ 64
+  all_free = omega (
+    arith,
+    free_exact,
+    had_sum is_free,
+    on_shelves_are closed records books run.fits.placed,
+    count_by-le-length (λ (r : Record). is_had is_free r.place) records,
+    count_by-le-length (λ (r : Record). is_shelved r.place) records,
+    run.fits.placed.many,
+    run.fits.numbers.records,
+  )
+
+  pub counts_exact : AreSumsOf counts books (on_shelves closed)
+  counts_exact = let t = run.totals_are in let m = run.fits.moved in let are = run.counts_are in record {
+    drawn = ap (λ (n : Counts). n.drawn) are ∙ exact _ _ _ t.drawn m.drawn (below was_drawn (λ r within. omega (arith, few_drawn r.place)));
+    reused = ap (λ (n : Counts). n.reused) are ∙ exact _ _ _ t.reused m.reused (below (lives_before k.first) (λ r within. omega (arith, within)));
+    retired = ap (λ (n : Counts). n.retired) are ∙ exact _ _ _ t.retired m.retired retired_below;
+    freed = ap (λ (n : Counts). n.freed) are ∙ exact _ _ _ t.freed m.freed (below (times_freed k.first) (λ r within. omega (arith, within, few_left freed_had few_freed r.place)));
+    limbo =
+        ap (λ (n : Counts). n.limbo) are
+        ∙ exact _ _ _ (t.limbo (All-from_recursion (λ b. b.moves.retired < 2 ^ 64) books (each_below retired_by (2 ^ 64) books (subst (λ n. n < 2 ^ 64) (sym m.retired) retired_below)))) (had_sum is_limbo) (had_below is_limbo);
+    free = ap (λ (n : Counts). n.free) are ∙ shown_below (run.totals.free + on_shelves closed) all_free ∙ ap (λ n. n + on_shelves closed) free_exact;
+    spare = ap (λ (n : Counts). n.spare) are ∙ exact _ _ _ t.spare (had_sum is_spare) (had_below is_spare);
+    spent = ap (λ (n : Counts). n.spent) are ∙ exact _ _ _ t.spent (had_sum is_spent) (had_below is_spent);
   }

@@ -30,7 +30,9 @@ use Rattle.record_table.specs.Closing.{closed_books, closed_setup, closed_words,
 use Rattle.record_table.specs.declared.closing.Closed.{Closed}
 use Rattle.set_api.specs.declared.answer.Answer.{Answer}
 use Rattle.set_runs.specs.Runs.{IsSetRun}
+use Rattle.set_runs.specs.Totals.{on_shelves}
 use Rattle.run_facts.specs.Unreclaimed.{IsUnreclaimed}
+use Rattle.run_facts.proofs.Shelved.{on_shelves_are}
 
 -- a sum of nothing
 pub sum_zero : {X : Type 0} (f : X → ℕ) (xs : List X) → ((i : ℕ) (x : X) → At xs i x → f x ≡ 0) → sum_by f xs ≡ 0
@@ -121,9 +123,12 @@ unreclaimed {s = s} {closed = closed} run =
     let sums = run.moves.sums.freed in
     let free : sum_by (had is_free) (closed_books closed) ≡ 0 = omega (arith, sums, freed) in
     let spent : sum_by (had is_spent) (closed_books closed) ≡ 0 = omega (arith, sums, freed) in
+    let shelved : on_shelves closed ≡ 0 = omega (arith, sums, freed, on_shelves_are closed run.moves.records (closed_books closed) run.moves.placed) in
+    let none : run.totals.free ≡ 0 = run.totals_are.free ∙ ap shown free in
+    let are = run.counts_are in
     record {
-      reused = run.counts_are.reused ∙ ap shown reused;
-      freed = run.counts_are.freed ∙ ap shown freed;
-      free = run.counts_are.free ∙ ap shown free;
-      spent = run.counts_are.spent ∙ ap shown spent;
+      reused = ap (λ (n : Counts). n.reused) are ∙ run.totals_are.reused ∙ ap shown reused;
+      freed = ap (λ (n : Counts). n.freed) are ∙ run.totals_are.freed ∙ ap shown freed;
+      free = ap (λ (n : Counts). n.free) are ∙ ap shown (omega (arith, none, shelved));
+      spent = ap (λ (n : Counts). n.spent) are ∙ run.totals_are.spent ∙ ap shown spent;
     }

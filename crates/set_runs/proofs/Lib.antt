@@ -2,4 +2,5 @@ mod Places
 mod Learning
 mod Progress
 mod Seating
+mod Shelves
 mod Whole

@@ -17,7 +17,7 @@ use Rattle.set_api.specs.declared.answer.Answer.{Answer}
 use Rattle.set_api.specs.Turns.{Phases}
 use Rattle.set_runs.specs.declared.players.Player.{Player}
 use Rattle.set_runs.specs.Playing.{phases_of, IsSeated}
-use Rattle.set_runs.specs.Totals.{AreTotalsOf}
+use Rattle.set_runs.specs.Totals.{AreTotalsOf, on_shelves, with_free}
 
 -- Each has its seat and made no step yet
 pub record AreAtStart {T C : Type 0} (has : T → C → Type 0) (set : T) (view : C → View) (setup : Setup) (first : Guard) (lists : List (List (List Call))) (players : List (Player C)) : Type 0 where
@@ -41,7 +41,10 @@ pub record IsSetRun (s : ShapeFacts) (c : CoverFacts) (steps : Setup → Call �
   pub setup_is : closed_setup closed ≡ setup
   pub fits : IsClosedBy s c closed
   pub moves : AreAddedUp closed
-  pub counts_are : AreTotalsOf counts (closed_books closed)
+  -- those of all callers, and the free records on shelves too
+  pub totals : Counts
+  pub totals_are : AreTotalsOf totals (closed_books closed)
+  pub counts_are : counts ≡ with_free totals (on_shelves closed)
   pub all_replies : length replies ≡ length lists
   pub all_books : length (closed_books closed) ≡ length lists
   pub bounds : List ℕ

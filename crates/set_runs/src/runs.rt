@@ -9,7 +9,7 @@ ghost use Rattle.set_runs.specs.Runs.{AreAtStart, IsSetRun};
 use crate::phases::play_phases;
 use crate::players::Player;
 use crate::seats::{Seats, leave_all, seat_all};
-use crate::totals::total_counts;
+use crate::totals::{total_counts, with_shelves};
 use outside::Gate;
 use record_table::Closed;
 use set_api::ConcurrentSet;
@@ -73,9 +73,10 @@ pub fn play_workload<
         mut replies,
     } = seats;
     let players = play_out(rt, gate, &set, workload, budget, players);
-    let counts = total_counts(&set, &players);
+    let totals = total_counts(&set, &players);
     leave_all(players, &mut callers, &mut replies);
     let closed = set.close(callers);
+    let counts = with_shelves(totals, &closed);
     Played {
         closed,
         counts,

@@ -4,9 +4,10 @@ use Rattle.set_model.specs.declared.calls.Counts.{Counts}
 use Rattle.record_table.specs.Closing.{closed_books}
 use Rattle.record_table.specs.declared.closing.Closed.{Closed}
 use Rattle.run_facts.specs.Counts.{ShowsMoves, AreSumsOf}
+use Rattle.set_runs.specs.Totals.{on_shelves}
 use Rattle.table_reports.specs.Reports.{TellsCounts}
 
-pub tells_counts : (closed : Closed) (n : Counts) → ShowsMoves closed → AreSumsOf n (closed_books closed) → TellsCounts closed n
+pub tells_counts : (closed : Closed) (n : Counts) → ShowsMoves closed → AreSumsOf n (closed_books closed) (on_shelves closed) → TellsCounts closed n
 tells_counts closed n fit sums = record {
   records = fit.records;
   taken_out = fit.taken_out;

@@ -10,7 +10,7 @@ use Rattle.record_table.specs.declared.closing.Closed.{Closed}
 use Rattle.report_text.specs.declared.report.Played.{Played}
 use Rattle.report_text.specs.declared.report.Report.{Report}
 use Rattle.row_words.specs.Refs.{RefParts}
-use Rattle.run_facts.specs.Counts.{anew_in, linked_in, shelved_in, marked_in}
+use Rattle.run_facts.specs.Counts.{anew_in, linked_in, marked_in}
 use Rattle.run_facts.specs.Replies.{with_replies}
 use Rattle.set_model.specs.declared.calls.Call.{Call}
 use Rattle.set_model.specs.declared.calls.Counts.{Counts}
@@ -44,7 +44,7 @@ pub record TellsCounts (closed : Closed) (n : Counts) : Type 0 where
   pub reused : n.reused ≡ anew_in closed
   -- the history has a removal for each record that was retired and for each that is linked with a mark
   pub retired : n.retired + marked_in records ≡ removals_in (history_of closed)
-  pub freed : n.freed ≡ n.reused + shelved_in records + n.free + n.spent
+  pub freed : n.freed ≡ n.reused + n.free + n.spent
   pub limbo : n.limbo + n.freed ≡ n.retired
-  -- as many were drawn as are linked, on shelves and in these places
-  pub places : n.limbo + n.free + n.spare + n.spent + linked_in records + shelved_in records ≡ n.drawn
+  -- as many were drawn as are linked and in these places
+  pub places : n.limbo + n.free + n.spare + n.spent + linked_in records ≡ n.drawn
