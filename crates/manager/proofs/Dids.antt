@@ -1,5 +1,5 @@
 -- The events of a guard's steps.
-use Rattle.std.proofs.Common.{◌≡◌, ℕ, ◌+◌, ◌-◌, ◌<◌, ◌≤◌, length, List, get_or-set_same, refl, arith, Option, Some, None, Result, Ok, Err, sym, ap, ◌∙◌, subst}
+use Rattle.std.proofs.Common.{◌≡◌, ℕ, ◌+◌, ◌-◌, ◌<◌, ◌≤◌, ◌++◌, length, append-nil, List, get_or-set_same, refl, arith, Option, Some, None, Result, Ok, Err, sym, ap, ◌∙◌, subst}
 use Rattle.std.specs.Prelude.{MatchResult, IfOk}
 use Rattle.set_model.specs.declared.calls.Call.{Call}
 use Rattle.record_memory.specs.declared.steps.StepKind.{StepKind}
@@ -13,7 +13,7 @@ use Rattle.row_words.specs.Packing.{packed_number}
 use Rattle.record_rule.specs.Facts.{ShapeFacts, clean}
 use Rattle.record_rule.specs.Kinds.{share_in, stored, stored_as, share_after, standing_after}
 use Rattle.record_rule.specs.HandingOut.{HasOwn, IsOwnOf}
-use Rattle.record_rule.specs.Links.{Origin, HasTaken, ExchangedLink, PublishedLink, UnlinkedRecord, LeftLink, PublishedBy, UnlinkedBy}
+use Rattle.record_rule.specs.Links.{Origin, entry_for, HasTaken, ExchangedLink, PublishedLink, UnlinkedRecord, LeftLink, PublishedBy, UnlinkedBy}
 use Rattle.record_rule.specs.LockedLinks.{StoredLink, PublishedLocked, UnlinkedLocked}
 use Rattle.record_rule.proofs.HandingOut.{known_within}
 use Rattle.record_table.specs.declared.nodes.Found.{Found}
@@ -22,13 +22,21 @@ use Rattle.record_table.specs.Nodes.{origin, IsRefused}
 use Rattle.record_pieces.specs.Manners.{Manner}
 use Rattle.manager.proofs.MoveCounts.{stored_moves}
 use Rattle.record_pieces.specs.Hands.{is_in_hand, in_hand}
-use Rattle.record_pieces.specs.Events.{exchanged, published, unlinked, stored_link, published_locked, unlinked_locked, stored_own, Exchanges, StoresOver, KeepsStock, Does}
+use Rattle.record_pieces.specs.Events.{exchanged, published, unlinked, stored_link, published_locked, unlinked_locked, stored_own, Exchanges, AnswersCall, StoresOver, KeepsStock, Does}
 use Rattle.record_pieces.proofs.Hands.{hand_mine, hand_same, hand_more, hand_less, does_still}
+
+-- the call that a step answered, by the entry that it left
+answers_call : (v w : View) (position : ℕ) (call : Option Call) → w.own.answered ≡ v.own.answered ++ entry_for position call → AnswersCall None call v.own w.own
+answers_call v w position None e = e ∙ append-nil v.own.answered
+answers_call v w position (Some call) e = (position, e)
 
 module _ (m : Manner) (s : ShapeFacts) (k : Setup) (v w : View) (setup : v.setup ≡ k) (stock : KeepsStock v.own w.own) (at : Node) where
   -- a refused exchange
   refused_does : (old new link : LinkParts) → IsRefused v (origin at) old link w → Exchanges k at 3 old new (Some link) v.own w.own
   refused_does old new link e = (e.word, e.found, e.another, ap (λ (x : View). x.own.steps) e.refused.view)
+
+  refused_answers : (old link : LinkParts) → IsRefused v (origin at) old link w → w.own.answered ≡ v.own.answered
+  refused_answers old link e = ap (λ (x : View). x.own.answered) e.refused.view
 
   refused_hand : (old link : LinkParts) → IsRefused v (origin at) old link w → in_hand w.own ≡ in_hand v.own
   refused_hand old link e = hand_mine v.own w.own (ap (λ (x : View). x.own.mine) e.refused.view)
@@ -54,19 +62,19 @@ module _ (m : Manner) (s : ShapeFacts) (k : Setup) (v w : View) (setup : v.setup
 
   pub exchange_does : {U : Type 0} (old new : LinkParts) (call : Option Call) (r : Result U Found) → MatchResult r (λ _. ExchangedLink s v (origin at) 3 old new call w) (λ found. IsRefused v (origin at) old found.link w)
       → MatchResult r (λ _. Does m k (exchanged at 3 old new call None) v.own w.own) (λ found. Does m k (exchanged at 3 old new call (Some found.link)) v.own w.own)
-  exchange_does old new call (Ok u) e = does_still refl refl refl (left_hand old new call e) (ap (λ (x : View). x.own.moves.retired) e.view) (made_does old new (ap (λ (x : View). x.own.steps) e.view), stock)
-  exchange_does old new call (Err found) e = does_still refl refl refl (refused_hand old found.link e) (refused_retired old found.link e) (refused_does old new found.link e, stock)
+  exchange_does old new call (Ok u) e = does_still refl refl refl (left_hand old new call e) (ap (λ (x : View). x.own.moves.retired) e.view) (made_does old new (ap (λ (x : View). x.own.steps) e.view), answers_call v w (length e.updates) call (ap (λ (x : View). x.own.answered) e.view), stock)
+  exchange_does old new call (Err found) e = does_still refl refl refl (refused_hand old found.link e) (refused_retired old found.link e) (refused_does old new found.link e, refused_answers old found.link e, stock)
 
   -- of an own record
   pub publish_does : {U : Type 0} (old : LinkParts) (own : RefParts) (row : List ℕ) (call : Option Call) → HasOwn v own row → (r : Result U (RefParts × Found))
       → MatchResult r (λ _. PublishedLink s v (origin at) 3 old own call w) (λ back. (back.0 ≡ own) × IsRefused v (origin at) old back.1.link w)
       → MatchResult r (λ _. Does m k (published at 3 old own call None) v.own w.own) (λ back. Does m k (published at 3 old own call (Some back.1.link)) v.own w.own)
   publish_does old own row call has (Ok u) e = record {
-    acts = (made_does old (clean own) (ap (λ (x : View). x.own.steps) e.view), stock);
+    acts = (made_does old (clean own) (ap (λ (x : View). x.own.steps) e.view), answers_call v w (length e.updates) call (ap (λ (x : View). x.own.answered) e.view), stock);
     hand = omega (arith, linked_hand old own row call has e);
     retires = omega (arith, ap (λ (x : View). x.own.moves.retired) e.view);
   }
-  publish_does old own row call has (Err back) e = does_still refl refl refl (refused_hand old back.1.link e.1) (refused_retired old back.1.link e.1) (refused_does old (clean own) back.1.link e.1, stock)
+  publish_does old own row call has (Err back) e = does_still refl refl refl (refused_hand old back.1.link e.1) (refused_retired old back.1.link e.1) (refused_does old (clean own) back.1.link e.1, refused_answers old back.1.link e.1, stock)
 
   -- of a held record
   pub unlink_does : (gone : RefParts) (new : LinkParts) → 0 < v.setup.records → (r : Result RefParts Found) → MatchResult r (λ taken. (taken ≡ gone) × UnlinkedRecord s v (origin at) 3 gone new w) (λ found. IsRefused v (origin at) (clean gone) found.link w)
@@ -83,11 +91,11 @@ module _ (m : Manner) (s : ShapeFacts) (k : Setup) (v w : View) (setup : v.setup
   over_does old new e = subst (λ (x : Setup). StoresOver x at 3 old new v.own w.own) setup e
 
   pub stored_does : (old new : LinkParts) (call : Option Call) → StoredLink s v (origin at) 3 old new call w → Does m k (stored_link at 3 old new call) v.own w.own
-  stored_does old new call e = does_still refl refl refl (left_hand old new call e) (ap (λ (x : View). x.own.moves.retired) e.view) (over_does old new (ap (λ (x : View). x.own.steps) e.view), stock)
+  stored_does old new call e = does_still refl refl refl (left_hand old new call e) (ap (λ (x : View). x.own.moves.retired) e.view) (over_does old new (ap (λ (x : View). x.own.steps) e.view), answers_call v w (length e.updates) call (ap (λ (x : View). x.own.answered) e.view), stock)
 
   pub linked_does : (old : LinkParts) (own : RefParts) (row : List ℕ) (call : Option Call) → HasOwn v own row → PublishedLocked s v (origin at) 3 old own call w → Does m k (published_locked at 3 old own call) v.own w.own
   linked_does old own row call has e = record {
-    acts = (over_does old (clean own) (ap (λ (x : View). x.own.steps) e.view), stock);
+    acts = (over_does old (clean own) (ap (λ (x : View). x.own.steps) e.view), answers_call v w (length e.updates) call (ap (λ (x : View). x.own.answered) e.view), stock);
     hand = omega (arith, linked_hand old own row call has e);
     retires = omega (arith, ap (λ (x : View). x.own.moves.retired) e.view);
   }

@@ -108,11 +108,11 @@ module _ (m : Manner) (k : Setup) where
   keeps_one (followed place at f r seen) b c keeps d = d.acts.2
   keeps_one (keyed r key) b c keeps d = d.acts.1
   keeps_one (looked at f link seen) b c keeps d = d.acts.2
-  keeps_one (exchanged at f expected new call refusal) b c keeps d = d.acts.1
-  keeps_one (published at f expected own call refusal) b c keeps d = d.acts.1
+  keeps_one (exchanged at f expected new call refusal) b c keeps d = d.acts.2
+  keeps_one (published at f expected own call refusal) b c keeps d = d.acts.2
   keeps_one (unlinked at f gone new refusal) b c keeps d = d.acts.1
-  keeps_one (stored_link at f old new call) b c keeps d = d.acts.1
-  keeps_one (published_locked at f old own call) b c keeps d = d.acts.1
+  keeps_one (stored_link at f old new call) b c keeps d = d.acts.2
+  keeps_one (published_locked at f old own call) b c keeps d = d.acts.2
   keeps_one (unlinked_locked at f old gone new) b c keeps d = d.acts.2
   keeps_one (took r) b c keeps d = absurd keeps
   keeps_one (refused n) b c keeps d = d.acts.stock

@@ -16,7 +16,7 @@ use Rattle.row_words.specs.declared.links.Freed.{Freed}
 use Rattle.record_rule.specs.Facts.{clean}
 use Rattle.record_rule.specs.Kinds.{idle}
 use Rattle.record_rule.specs.HandingOut.{handed_out}
-use Rattle.record_rule.specs.Links.{index_of, held_at, link_word, read_at}
+use Rattle.record_rule.specs.Links.{index_of, held_at, link_word, entry_for, read_at}
 use Rattle.record_rule.specs.Standings.{is_free, is_spare}
 use Rattle.record_table.specs.declared.nodes.Node.{Node}
 use Rattle.record_table.specs.Nodes.{origin}
@@ -154,6 +154,12 @@ Exchanges k at f expected new (Some link) b c = (n : ℕ) × (link ≡ link_in n
 abbrev pub StoresOver : Setup → Node → ℕ → LinkParts → LinkParts → Book → Book → Type 0
 StoresOver k at f old new b c = OneStep b (node_step b Store at f (link_word k (origin at) old) (link_word k (origin at) new)) c
 
+-- where such a step was made it answered the call that the event names, and no other; where it was refused it answered none
+abbrev pub AnswersCall : Option LinkParts → Option Call → Book → Book → Type 0
+AnswersCall (Some link) call b c = c.answered ≡ b.answered
+AnswersCall None None b c = c.answered ≡ b.answered
+AnswersCall None (Some call) b c = (position : ℕ) × (c.answered ≡ b.answered ++ entry_for position (Some call))
+
 -- the stores of the eight words of a record that is handed out
 abbrev pub HandsOut : RefParts → ℕ → Book → Book → Type 0
 HandsOut r birth b c = (v : View) × (w : View) × (v.own ≡ b) × (w.own ≡ c) × (w ≡ handed_out v r birth)
@@ -231,11 +237,11 @@ module _ (m : Manner) (k : Setup) where
   Acts (followed p at f r seen) b c = FollowsByLoad at f b r c × (c.updates_seen ≡ seen) × KeepsStock b c
   Acts (keyed r key) b c = ((n : ℕ) × (key ≡ key_in n) × OneStep b (key_load b r n) c) × KeepsStock b c
   Acts (looked at f link seen) b c = ((n : ℕ) × (link ≡ link_in n) × OneStep b (node_step b Load at f n n) c) × (c.updates_seen ≡ seen) × KeepsStock b c
-  Acts (exchanged at f expected new call refusal) b c = Exchanges k at f expected new refusal b c × KeepsStock b c
-  Acts (published at f expected own call refusal) b c = Exchanges k at f expected (clean own) refusal b c × KeepsStock b c
+  Acts (exchanged at f expected new call refusal) b c = Exchanges k at f expected new refusal b c × AnswersCall refusal call b c × KeepsStock b c
+  Acts (published at f expected own call refusal) b c = Exchanges k at f expected (clean own) refusal b c × AnswersCall refusal call b c × KeepsStock b c
   Acts (unlinked at f gone new refusal) b c = Exchanges k at f (clean gone) new refusal b c × KeepsStock b c
-  Acts (stored_link at f old new call) b c = StoresOver k at f old new b c × KeepsStock b c
-  Acts (published_locked at f old own call) b c = StoresOver k at f old (clean own) b c × KeepsStock b c
+  Acts (stored_link at f old new call) b c = StoresOver k at f old new b c × AnswersCall None call b c × KeepsStock b c
+  Acts (published_locked at f old own call) b c = StoresOver k at f old (clean own) b c × AnswersCall None call b c × KeepsStock b c
   Acts (unlinked_locked at f old gone new) b c = (old.target ≡ Some gone) × StoresOver k at f old new b c × KeepsStock b c
   Acts (took r) b c = Takes b r c
   Acts (refused n) b c = FindsNone b n c
