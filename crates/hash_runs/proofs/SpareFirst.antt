@@ -70,8 +70,8 @@ module _ (enters : Setup → Book → Freed → Book → Type 0) (leaves : Setup
   takes_add k b c false h = of_books k b c h.0 h.1 h.2 (h.3.steps, h.3.made.appended)
 
   gives_add : (k : Setup) (b c : Book) (put : Bool) → own_manner.gives k b put c → AddsSteps b c
-  gives_add k b c true h = of_books k b c h.0 h.1 h.2 (h.3.1.steps, h.3.1.made.appended)
-  gives_add k b c false h = of_books k b c h.0 h.1 h.2 (h.3.1.steps, h.3.1.made.appended)
+  gives_add k b c true h = of_books k b c h.0 h.1 h.2 (h.3.2.steps, h.3.2.made.appended)
+  gives_add k b c false h = of_books k b c h.0 h.1 h.2 (h.3.2.steps, h.3.2.made.appended)
 
   only_adds : (k : Setup) → OnlyAdds own_manner k
   only_adds k = record {

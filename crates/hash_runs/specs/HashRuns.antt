@@ -21,10 +21,10 @@ use Rattle.list_facts.specs.Michael.{michael}
 use Rattle.michael_hash.specs.Pieces.{MakesPiece}
 use Rattle.set_runs.specs.Runs.{IsSetRun}
 
--- the steps of a reclaimer, by its relations, of the allocator that counts in one word and of the pool without shelves
+-- the steps of a reclaimer, by its relations, of the allocator that counts in one word and of the pool of 16 shelves
 abbrev pub manner_of : (Setup → Book → Freed → Book → Type 0) → (Setup → Book → Book → Type 0) → (Setup → Book → ℕ → Book → Type 0)
     → (Setup → ℕ → Node → ℕ → Book → Holding → Book → Type 0) → (Setup → Book → RefParts → Freed → Book → Type 0) → Manner
-manner_of enters leaves bears reaches puts_away = manner enters leaves bears reaches puts_away Draws Refuses 0 (λ steps. ⊥)
+manner_of enters leaves bears reaches puts_away = manner enters leaves bears reaches puts_away Draws Refuses 16 (λ steps. ⊥)
 
 -- a table of so many records and buckets for so many callers, prepared at generation 1, under the reclaimer with these facts
 abbrev pub hash_setup : CoverFacts → ℕ → ℕ → ℕ → Setup

@@ -6,7 +6,7 @@ ghost use Rattle.hash_runs.specs.HashRuns.{IsRunUnder, manner_of};
 use alloc_bump::Bump;
 use michael_hash::MichaelHash;
 use outside::Gate;
-use pool::NoPool;
+use pool::ShelfPool;
 use reclaim_api::Scheme;
 use record_table::PrepareError;
 use row_words::Generation;
@@ -18,8 +18,8 @@ use std::thread::Threads;
 use workload_text::Workload;
 
 /// Plays the workload on an empty hash table of `records` records, at most 1,048,575, of which the first `buckets`, at
-/// least 1, are the buckets. Records are reclaimed by `R`, and are drawn from one shared count. The one refusal is want
-/// of memory, before the first call is made.
+/// least 1, are the buckets. Records are reclaimed by `R`, are drawn from one shared count, and go from caller to caller
+/// over 16 shelves. The one refusal is want of memory, before the first call is made.
 pub fn play_hash<
     R: Scheme<Local = L> + Send,
     L: Drop + Send,
@@ -41,7 +41,7 @@ pub fn play_hash<
     let Some(first) = Generation::new(1) else {
         unreachable!()
     };
-    let made = MichaelHash::<R, Bump, NoPool>::prepare(
+    let made = MichaelHash::<R, Bump, ShelfPool>::prepare(
         alloc,
         records,
         workload.callers(),

@@ -6,7 +6,7 @@ use Rattle.record_memory.specs.declared.books.Book.{Book}
 use Rattle.record_memory.specs.declared.books.View.{View}
 use Rattle.row_words.specs.Refs.{RefParts}
 use Rattle.row_words.specs.declared.links.Chain.{Chain}
-use Rattle.pool.specs.Calls.{Takes, Gives}
+use Rattle.pool.specs.Calls.{IsFull, Takes, Gives}
 use Rattle.pool.specs.declared.Taken.TheVariants.{Some as Took, None as FoundNone}
 use Rattle.pool.specs.declared.Given.TheVariants.{Done, Kept}
 use Rattle.row_words.specs.declared.links.Freed.{Freed}
@@ -32,8 +32,8 @@ takes_by shelves busy k b true c = (v : View) × (w : View) × AreOf k b c v w �
 takes_by shelves busy k b false c = (v : View) × (w : View) × AreOf k b c v w × Takes shelves busy v w FoundNone
 
 abbrev pub gives_by : ℕ → (List Step → Type 0) → Setup → Book → Bool → Book → Type 0
-gives_by shelves busy k b true c = (v : View) × (w : View) × AreOf k b c v w × ((chain : Chain) × Gives shelves busy v w chain Done)
-gives_by shelves busy k b false c = (v : View) × (w : View) × AreOf k b c v w × ((chain : Chain) × Gives shelves busy v w chain (Kept chain))
+gives_by shelves busy k b true c = (v : View) × (w : View) × AreOf k b c v w × ((chain : Chain) × IsFull v chain × Gives shelves busy v w chain Done)
+gives_by shelves busy k b false c = (v : View) × (w : View) × AreOf k b c v w × ((chain : Chain) × IsFull v chain × Gives shelves busy v w chain (Kept chain))
 
 -- the manner of the three, by the relations that they state
 abbrev pub manner : (Setup → Book → Freed → Book → Type 0) → (Setup → Book → Book → Type 0) → (Setup → Book → ℕ → Book → Type 0) → (Setup → ℕ → Node → ℕ → Book → Holding → Book → Type 0) → (Setup → Book → RefParts → Freed → Book → Type 0)

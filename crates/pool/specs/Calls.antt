@@ -1,5 +1,5 @@
 -- What a call of a pool does.
-use Rattle.std.specs.Prelude.{◌≡◌, ◌≢◌, ℕ, ◌+◌, ◌⊎◌, List, [], ◌∷◌, ◌++◌, length, All, Option, None}
+use Rattle.std.specs.Prelude.{◌≡◌, ◌≢◌, ℕ, ◌+◌, ◌*◌, ◌<◌, ◌⊎◌, List, [], ◌∷◌, ◌++◌, length, All, Option, None}
 use Rattle.row_words.specs.Refs.{RefParts}
 use Rattle.row_words.specs.Packing.{packed_ref}
 use Rattle.row_words.specs.declared.links.Chain.{Chain}
@@ -12,7 +12,7 @@ use Rattle.record_memory.specs.declared.books.Standing.TheVariants.{Free}
 use Rattle.record_rule.specs.Kinds.{share_in, idle}
 use Rattle.record_rule.specs.Makes.{Makes}
 use Rattle.reclaim_api.specs.Chained.{IsChainOf, refs_in}
-use Rattle.pool.specs.Looks.{Look, looks_in, AreAllEmpty, AreAllTaken, AreFirst}
+use Rattle.pool.specs.Looks.{Look, looks_in, SwapsLoaded, AreAllEmpty, AreAllTaken, AreFirst}
 use Rattle.pool.specs.declared.Taken.{Taken}
 use Rattle.pool.specs.declared.Taken.TheVariants.{Some as Took, None as FoundNone}
 use Rattle.pool.specs.declared.Given.{Given}
@@ -77,10 +77,13 @@ module _ (shelves : ℕ) (busy : List Step → Type 0) (before after : View) whe
   GivesBy chain Done steps = Loses before after (refs_in before chain) × IsPut chain.head steps (looks_in steps)
   GivesBy chain (Kept back) steps = (back ≡ chain) × (after.own.mine ≡ before.own.mine) × (AreAllTaken shelves (looks_in steps) ⊎ busy steps)
 
-  -- `take` made some steps, among them at most one look at each shelf, and answered by what they found
+  -- `take` made some steps, at most two for each shelf and among them at most one look at it, and answered by what they found
   pub record Takes (taken : Taken) : Type 0 where
     pub steps : List Step
     pub made : Makes before after steps
+    pub few : length steps < 2 * shelves + 1
+    -- it swaps no more often than its loads find a chain
+    pub loaded : SwapsLoaded steps
     -- it handed no record out, and retired and freed none
     pub moves : after.own.moves ≡ before.own.moves
     pub looks : AreFirst shelves (looks_in steps)
@@ -90,6 +93,7 @@ module _ (shelves : ℕ) (busy : List Step → Type 0) (before after : View) whe
   pub record Gives (chain : Chain) (given : Given) : Type 0 where
     pub steps : List Step
     pub made : Makes before after steps
+    pub few : length steps < 2 * shelves + 1
     pub moves : after.own.moves ≡ before.own.moves
     pub looks : AreFirst shelves (looks_in steps)
     pub answer : GivesBy chain given steps

@@ -1,5 +1,5 @@
 -- The looks at shelves among a caller's steps.
-use Rattle.std.specs.Prelude.{◌≡◌, ◌≢◌, ℕ, zero, suc, ◌+◌, ◌<◌, List, [], ◌∷◌, ◌++◌, map, All}
+use Rattle.std.specs.Prelude.{◌≡◌, ◌≢◌, ℕ, zero, suc, ◌+◌, ◌<◌, ◌≤◌, List, [], ◌∷◌, ◌++◌, length, map, sum_by, All, ◌==◌, if◌then◌else◌}
 use Rattle.record_memory.specs.declared.steps.Word.{Word}
 use Rattle.record_memory.specs.declared.steps.Word.TheVariants.{Drawn, Epoch, Lock, Blank, Shelf, Announced, Cursor, Field}
 use Rattle.record_memory.specs.declared.steps.StepKind.{StepKind}
@@ -24,9 +24,9 @@ seen_on (Announced k) n = []
 seen_on (Cursor c) n = []
 seen_on (Field i f) n = []
 
--- a step on a shelf that finds what stands there is a look, and a store finds nothing
+-- A step on a shelf that finds what stands there is a look, and a store finds nothing. A load that finds a chain says nothing yet: a swap follows, which finds a chain or none
 abbrev pub seen_as : StepKind → Word → ℕ → List Look
-seen_as Load w n = seen_on w n
+seen_as Load w n = if n == 0 then seen_on w n else []
 seen_as Store w n = []
 seen_as Swap w n = seen_on w n
 seen_as Add w n = seen_on w n
@@ -36,6 +36,25 @@ seen_as Exchange w n = seen_on w n
 abbrev pub looks_in : List Step → List Look
 looks_in [] = []
 looks_in (t ∷ ts) = seen_as t.kind t.word t.found ++ looks_in ts
+
+-- how often a step swaps, and how often it is a load of a shelf that finds a chain
+abbrev pub swaps_by : StepKind → ℕ
+swaps_by Load = 0
+swaps_by Store = 0
+swaps_by Swap = 1
+swaps_by Add = 0
+swaps_by Exchange = 0
+
+abbrev pub chains_by : StepKind → Word → ℕ → ℕ
+chains_by Load w n = if n == 0 then 0 else length (seen_on w n)
+chains_by Store w n = 0
+chains_by Swap w n = 0
+chains_by Add w n = 0
+chains_by Exchange w n = 0
+
+-- these steps swap no more often than a load finds a chain
+abbrev pub SwapsLoaded : List Step → Type 0
+SwapsLoaded steps = sum_by (λ (t : Step). swaps_by t.kind) steps ≤ sum_by (λ (t : Step). chains_by t.kind t.word t.found) steps
 
 -- the shelves from `from` on, `count` of them
 abbrev pub shelves_from : ℕ → ℕ → List ℕ

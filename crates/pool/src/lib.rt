@@ -37,7 +37,7 @@ pub enum Given {
 }
 
 /// Where free records wait for any caller. A chain on a shelf has 32 records. A call looks at the
-/// shelves in order, at each at most once, and waits for nobody.
+/// shelves in order, in each at most two steps, and waits for nobody.
 pub trait Pool {
     /// How many shelves there are, from shelf 0 on.
     const SHELVES: u32;

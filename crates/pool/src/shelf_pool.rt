@@ -4,14 +4,15 @@ ghost use Rattle.record_table.specs.Handles.{view, IsPassOf, IsSamePass};
 ghost use Rattle.pool.specs.Calls.{IsFull, Takes, Gives};
 
 use crate::{Given, Pool, Taken};
+use record_memory::shelf as word_of;
 use record_table::{Cover, Pass, Shape, Table};
 use row_words::Chain;
 
 /// How many records a chain on a shelf has.
 const CHAIN: u32 = 32;
 
-/// A pool of 16 shelves. Each look at one is one step, which takes its chain or puts one there where it
-/// can, so a pool that is in use by another caller is no case of its own.
+/// A pool of 16 shelves. A chain is put on a shelf by one step, and taken from one by one step, so a pool that is in
+/// use by another caller is no case of its own. `take` swaps no shelf that it finds empty: it loads each before.
 pub struct ShelfPool;
 
 impl Pool for ShelfPool {
@@ -27,6 +28,9 @@ impl Pool for ShelfPool {
         ensures takes { Takes 16 (λ steps. ⊥) (view pass.old) (view pass.new) result }
     {
         for shelf in 0..16 {
+            if table.load_control(pass, word_of(shelf)) == 0 {
+                continue;
+            }
             if let Some(head) = table.take_shelf(pass, shelf) {
                 return Taken::Some(Chain {
                     head: Some(head),

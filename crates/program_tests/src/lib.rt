@@ -13,4 +13,6 @@ mod rows;
 #[cfg(test)]
 mod shared_keys;
 #[cfg(test)]
+mod shelves;
+#[cfg(test)]
 mod side_by_side;

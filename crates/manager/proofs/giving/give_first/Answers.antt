@@ -61,7 +61,7 @@ returns-in-Done-clause-gave g c is =
       between = w.own;
       last = r;
       cut = cut_steps v u w a.free r next _ records list c.requires.enough e.along s.step s.row s.others;
-      given = (w, x, record { setup = s.of.setup; before = refl; after = refl }, (chain, t));
+      given = (w, x, record { setup = s.of.setup; before = refl; after = refl }, (chain, full, t));
     }
 
 pub returns-in-Kept-clause-free : goal.returns-in-Kept-clause-free
@@ -95,6 +95,6 @@ returns-in-Kept-clause-kept g c is =
       kept = x.own;
       last = r;
       cut = cut_steps v u w a.free r next _ records list c.requires.enough e.along s.step s.row s.others;
-      given = (w, x, record { setup = s.of.setup; before = refl; after = refl }, (chain, subst (λ (b : Chain). Gives g.P.Pool.SHELVES g.P.Pool.busy w x chain (Kept b)) t.answer.0 t));
+      given = (w, x, record { setup = s.of.setup; before = refl; after = refl }, (chain, cut_full v u w a.free r next _ records list c.requires.enough e.along s.step s.row s.others, subst (λ (b : Chain). Gives g.P.Pool.SHELVES g.P.Pool.busy w x chain (Kept b)) t.answer.0 t));
       mended = back_steps v u w a.free r next _ records list c.requires.enough e.along s.step s.row s.others x y _ at t.answer.1 z.step z.row z.others;
     }

@@ -24,4 +24,4 @@ loop-shelf-preserved g c = let e = c.give_shelf.ensures.pass in let i = c.loop-s
 
 pub returns-clause-gives : goal.returns-clause-gives
 returns-clause-gives g c = kept_chain (view c.args.pass.now) (view c.loop-shelf.pass) c.args.chain
-    (let e : c.loop-shelf.shelf ≡ 16 = omega (arith, c.loop-shelf-test.false, c.loop-shelf.auto.shelf-end) in subst (λ (k : ℕ). Passed IsSome k (view c.args.pass.now) (view c.loop-shelf.pass)) e c.loop-shelf.invariant.passed)
+    (let e : c.loop-shelf.shelf ≡ 16 = omega (arith, c.loop-shelf-test.false, c.loop-shelf.auto.shelf-end) in subst (λ (k : ℕ). Passed IsSome k k 0 (view c.args.pass.now) (view c.loop-shelf.pass)) e c.loop-shelf.invariant.passed)
