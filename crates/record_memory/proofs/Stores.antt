@@ -168,6 +168,12 @@ module _ (n m : ℕ) where
   pub address-word_at : (w : ℕ) → address n (word_at n w) ≡ w
   address-word_at w = word_by (λ x. address n x ≡ w) w sym sym sym sym (λ a b. omega arith) (λ a b. omega arith) (λ a b. omega arith) (λ a. omega arith)
 
+  -- a caller's cursor
+  pub word_at-cursor : (c : ℕ) → c < n → word_at n (20 + 4 * n + c) ≡ Cursor c
+  word_at-cursor c h = let w : ℕ = 20 + 4 * n + c in
+      word_by (λ x. x ≡ Cursor c) w (λ e. absurd (omega arith)) (λ e. absurd (omega arith)) (λ e. absurd (omega arith)) (λ e. absurd (omega arith)) (λ a b. absurd (omega arith)) (λ a b. absurd (omega arith))
+      (λ a b. let k : w - (20 + 4 * n) ≡ c = omega arith in λ t. Cursor (k t)) (λ a. absurd (omega arith))
+
   -- a word of a record
   pub word_at-field : (i f : ℕ) → 0 < i → f < 8 → word_at n (20 + 5 * n + 8 * (i - 1) + f) ≡ Field i f
   word_at-field i f h g = let w : ℕ = 20 + 5 * n + 8 * (i - 1) + f in

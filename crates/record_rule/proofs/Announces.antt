@@ -29,7 +29,7 @@ use Rattle.record_rule.specs.Recorded.{StepFits}
 use Rattle.record_rule.proofs.Lists.{below_at, one_at, map_set_same}
 use Rattle.record_rule.proofs.Fields.{places_beside}
 use Rattle.record_rule.proofs.Quiet.{places_calm, calm_after}
-use Rattle.record_rule.proofs.Rebuilt.{starts_itself, made_more, no_field, elsewhere, stepped}
+use Rattle.record_rule.proofs.Rebuilt.{starts_itself, made_more, no_field, counters, elsewhere, stepped}
 use Rattle.record_rule.proofs.Retirements.{stored_none, same_records}
 use Rattle.record_rule.proofs.Counts.{counts_calm}
 use Rattle.record_rule.proofs.Steps.{before, given, book, are_whole, noted_within, recent_now, own_behind}
@@ -230,7 +230,7 @@ module _ (shape : ShapeFacts) (cover : CoverFacts) (shaped : ShapeLaws shape) (c
         behind = own_behind shape cover setup s u id v at present;
         made = made';
         start_made = started';
-      } t refl (elsewhere m.drawn m'.drawn t (ap (λ (x : Memory). x.drawn) put_is) (λ e. cc)) (stored_none setup.first u.records u.records t (λ j g. refl) (λ i f kind on. let none : ⊥ = cc in absurd none) (same_records setup.first u.records))
+      } t refl (elsewhere t (ap counters put_is) refl (λ e. cc)) (stored_none setup.first u.records u.records t (λ j g. refl) (λ i f kind on. let none : ⊥ = cc in absurd none) (same_records setup.first u.records))
       (places' (length u.updates)) (subst (Parts shape cover setup) (now_is (length u.updates)) parts') (counts_calm setup.first u.records u.books c v.own (own_at (length u.updates)) mine u.counts refl)
   announced_so false now = let f = u.seated id v at in
       stepped shape cover setup s u id v (record v { own = own }) at present words' (length-set s.words word value ∙ u.wide) u.records u.taken_out u.updates (starts_itself u.taken_out) (starts_itself u.updates) record {
@@ -247,7 +247,7 @@ module _ (shape : ShapeFacts) (cover : CoverFacts) (shaped : ShapeLaws shape) (c
         behind = own_behind shape cover setup s u id v at present;
         made = made';
         start_made = started';
-      } t refl (elsewhere m.drawn m'.drawn t (ap (λ (x : Memory). x.drawn) put_is) (λ e. cc)) (stored_none setup.first u.records u.records t (λ j g. refl) (λ i f kind on. let none : ⊥ = cc in absurd none) (same_records setup.first u.records))
+      } t refl (elsewhere t (ap counters put_is) refl (λ e. cc)) (stored_none setup.first u.records u.records t (λ j g. refl) (λ i f kind on. let none : ⊥ = cc in absurd none) (same_records setup.first u.records))
       (places' v.own.updates_seen) (subst (Parts shape cover setup) (now_is v.own.updates_seen) parts') (counts_calm setup.first u.records u.books c v.own own mine u.counts refl)
 
 module _ (shape : ShapeFacts) (cover : CoverFacts) (shaped : ShapeLaws shape) (covering : CoverLaws cover) (setup : Setup) where

@@ -31,7 +31,7 @@ use Rattle.record_rule.proofs.Owned.{share_of}
 use Rattle.record_memory.specs.declared.books.Moves.{Moves}
 use Rattle.record_rule.specs.Counts.{drawn_as, retired_had, retired_as, freed_had, freed_as}
 use Rattle.record_rule.proofs.Counts.{counts_moved, balances_same}
-use Rattle.record_rule.proofs.Rebuilt.{elsewhere, rebuilt}
+use Rattle.record_rule.proofs.Rebuilt.{counters, elsewhere, rebuilt}
 use Rattle.record_rule.proofs.Retirements.{LeavesRetirements, RetiresNone, stored_none, shows_moved, stored_here}
 use Rattle.record_rule.specs.Retirements.{WasStored}
 use Rattle.record_rule.proofs.RetirementMoves.{beside_stamp}
@@ -162,7 +162,7 @@ module _ (shape : ShapeFacts) (cover : CoverFacts) (setup : Setup) (s : State (U
     -- so the rule stays
     pub move_kept : Rule shape cover setup record { words = after i value; homes = s.homes; views = set s.views id (record v { own = b }) }
     move_kept = rebuilt shape cover setup s u id v at present (after i value) (length-set s.words (address setup.callers (Field i 1)) value ∙ u.wide) (set u.records (i - 1) new) b step finds caller same.answered same.guard same.notes steps
-        (elsewhere m.drawn _ step (ap (λ (x : Memory). x.drawn) stored_words) other) retires_none_here places_after
+        (elsewhere step (ap counters stored_words) (ap (λ (z : Moves). z.drawn) moves) other) retires_none_here places_after
         (subst (Parts shape cover setup) (sym (outline_after m (memory setup.callers setup.records (after i value)) u.taken_out u.updates (ap (λ (x : Memory). x.epoch) stored_words)
         (ap (λ (x : Memory). x.announced) stored_words) u.books c v.own b own_there same u.records (i - 1) r new there record {
           shape = hidden_kept to new ∙ sym (ap (λ (p : Place). shape_at p r) was_at ∙ hidden_kept from r);

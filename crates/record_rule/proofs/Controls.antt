@@ -33,14 +33,15 @@ use Rattle.record_rule.specs.Known.{KnownFits}
 use Rattle.record_rule.specs.Shelves.{PoolCell, pool_at, pool_cell, ShelvesFit}
 use Rattle.record_rule.specs.World.{IsRecent, Places, Parts, Rule, overshoot}
 use Rattle.record_rule.specs.Kinds.{control_load, ShowsBelow, Lawful}
+use Rattle.record_rule.specs.OwnDraws.{ShowsDrawn}
 use Rattle.record_rule.specs.Links.{with_step}
 use Rattle.record_rule.specs.Freeing.{freed_from, LoadedControl, LoadedBy}
 use Rattle.record_rule.proofs.Lists.{below_at, at_below, one_at, get_at, map_set_same}
 use Rattle.record_rule.proofs.Quiet.{same_overshoot, past_before, books_after, calm_after}
-use Rattle.record_rule.proofs.Rebuilt.{starts_itself, one_more, made_more, stepped}
+use Rattle.record_rule.proofs.Rebuilt.{starts_itself, one_more, made_more, leaves_drawn, stepped}
 use Rattle.record_rule.proofs.Retirements.{retires_none}
 use Rattle.record_rule.proofs.RetirementMoves.{freed_shows}
-use Rattle.record_rule.proofs.Loads.{load_within, control_fits, loads_control}
+use Rattle.record_rule.proofs.Loads.{load_within, control_fits, shows_drawn, loads_control}
 use Rattle.record_rule.specs.Kinds.{share_in, freed_more}
 use Rattle.record_rule.specs.Freeing.{count_freed}
 use Rattle.record_rule.proofs.FreedCounts.{counts_freed}
@@ -346,7 +347,7 @@ module _ (shape : ShapeFacts) (cover : CoverFacts) (shaped : ShapeLaws shape) (c
         made = λ h. made_more setup c v.own.steps t (control_fits shape cover setup s u id v at present word) h;
         start_made = λ h. let k = one_more v.own.guard.start_step v.own.steps t h in let e : g2.start_step ≡ v.own.guard.start_step = same_holds.start.step ∙ has1.start.step in subst (λ (z : ℕ). z ≤ length (v.own.steps ++ t ∷ [])) (sym e) k;
       }
-      t refl record { grows = omega arith; found = load_within setup s.words v word } (retires_none setup.first u.records records' t refl (freed_shows may c setup.first u.records))
+      t refl (leaves_drawn refl refl (load_within setup s.words v word)) (retires_none setup.first u.records records' t refl (freed_shows may c setup.first u.records))
       (freed_places setup u.records u.books m may c v.own own u.places mine refl refl (calm_after v.own.drawing v.setup.records t tt))
       (subst (Parts shape cover setup) now_is parts2)
       (counts_freed may c setup.first u.records u.books v.own own mine (u.places.books_fit c v.own mine).mine refl u.counts))
@@ -401,17 +402,17 @@ module _ (shape : ShapeFacts) (cover : CoverFacts) (shaped : ShapeLaws shape) (c
     },
   )
 
-  -- so may one by the word, and a look at the number of records drawn shows whether one is left
+  -- so may one by the word, and a look at the number of records drawn, or at the caller's own cursor, shows whether one is left
   pub loads_by : (id word : ℕ) (v : View) → v.present ≡ true → v.setup ≡ setup → word < size setup.callers setup.records
-      → Lawful (Rule shape cover setup) id v word (λ n. n) (λ n w. LoadedBy cover v (word_at v.setup.callers word) word n w × ShowsBelow v word n)
+      → Lawful (Rule shape cover setup) id v word (λ n. n) (λ n w. LoadedBy cover v (word_at v.setup.callers word) word n w × ShowsBelow v word n × ShowsDrawn v word n)
   loads_by id word v present same within = by (word_at v.setup.callers word) refl
     where
       Told : Word → Type 0
-      Told x = Lawful (Rule shape cover setup) id v word (λ n. n) (λ n w. LoadedBy cover v x word n w × ShowsBelow v word n)
+      Told x = Lawful (Rule shape cover setup) id v word (λ n. n) (λ n w. LoadedBy cover v x word n w × ShowsBelow v word n × ShowsDrawn v word n)
 
       -- no other word is that of the records drawn
-      learns : (x : Word) → word_at v.setup.callers word ≡ x → x ≢ Drawn → Lawful (Rule shape cover setup) id v word (λ n. n) (λ n w. LoadedControl cover v word n w × ShowsBelow v word n)
-      learns x is another s u at = let l = loads_controlled id word v present same within s u at in (l.0, l.1, (l.2, λ first. absurd (another (sym is ∙ ap (word_at v.setup.callers) first))))
+      learns : (x : Word) → word_at v.setup.callers word ≡ x → x ≢ Drawn → Lawful (Rule shape cover setup) id v word (λ n. n) (λ n w. LoadedControl cover v word n w × ShowsBelow v word n × ShowsDrawn v word n)
+      learns x is another s u at = let l = loads_controlled id word v present same within s u at in (l.0, l.1, (l.2, (λ first. absurd (another (sym is ∙ ap (word_at v.setup.callers) first))), shows_drawn shape cover setup s u id v at present word))
 
       by : (x : Word) → word_at v.setup.callers word ≡ x → Told x
       by Epoch is = learns Epoch is (λ e. cc)

@@ -1,43 +1,35 @@
 -- Drawing a record: 1 is added to the number of records drawn.
-use Rattle.std.proofs.Common.{◌++◌, ◌≡◌, ◌≢◌, ℕ, ◌+◌, ◌-◌, ◌%◌, ◌<◌, ◌≤◌, ◌^◌, List, [], ◌∷◌, map, length, get_or, set, length-set, Bool, true, false, cond, ltb, sum_by, sym, refl, ap, ◌∙◌, subst, arith, ⊎_elim, Some, None, get_or-set_same, inr}
-use Rattle.std.proofs.lemmas.List.{map-set, length-map}
+use Rattle.std.proofs.Common.{◌++◌, ◌≡◌, ℕ, ◌+◌, ◌-◌, ◌%◌, ◌<◌, ◌≤◌, ◌^◌, List, [], ◌∷◌, length, get_or, set, length-set, Bool, true, false, cond, ltb, sum_by, sym, refl, ap, ◌∙◌, subst, arith, Some, None, inr}
 use Rattle.std.proofs.lemmas.List.Sums.{sum_by-cons, sum_by-set}
-use Rattle.std.proofs.lemmas.Bool.{ltb-true, ltb-false, le-ltb, lt-ltb}
+use Rattle.std.proofs.lemmas.Bool.{ltb-true, ltb-false, lt-ltb}
 use Rattle.std.proofs.Math.Nat.{mod-eq_of_lt}
 use mathlib.Core.Option.{some}
 use lib.ListN.{get_elem?}
-use Rattle.atomic_table.proofs.Lists.{at_set, at_map}
 use Rattle.atomic_table.specs.Table.{State}
 use Rattle.set_model.specs.declared.names.AllocatorName.{AllocatorName}
 use Rattle.set_model.specs.declared.names.AllocatorName.TheVariants.{Bump, Once}
 use Rattle.record_memory.specs.declared.steps.Word.TheVariants.{Drawn}
+use Rattle.record_memory.specs.declared.steps.StepKind.TheVariants.{Add}
 use Rattle.record_memory.specs.declared.books.Setup.{Setup}
 use Rattle.record_memory.specs.declared.books.View.{View}
 use Rattle.record_memory.specs.declared.books.Book.{Book}
+use Rattle.record_memory.specs.declared.books.Moves.{Moves}
 use Rattle.record_memory.specs.declared.books.Drawing.{Drawing}
 use Rattle.record_memory.specs.declared.books.Drawing.TheVariants.{Unsure, Below, Past}
-use Rattle.record_memory.specs.declared.books.Standing.TheVariants.{Handing}
-use Rattle.record_memory.specs.declared.books.Place.{Place}
-use Rattle.record_memory.specs.declared.books.Place.TheVariants.{Undrawn, Root, Of}
 use Rattle.record_memory.specs.Memory.{Memory, memory, size}
 use Rattle.record_memory.proofs.Stores.{stores}
-use Rattle.record_rule.specs.Records.{Record, IsSetup, IsSound, share, share_at, carried}
-use Rattle.record_rule.specs.Inputs.{shape_at, scheme_at, taken_at, untaken}
+use Rattle.record_rule.specs.Records.{Record, IsSetup}
 use Rattle.record_rule.specs.Facts.{ShapeFacts, CoverFacts}
-use Rattle.record_rule.specs.Recorded.{StepFits}
-use Rattle.record_rule.specs.Shelves.{PoolCell, pool_at, pool_cell, ShelvesFit}
+use Rattle.record_rule.specs.Recorded.{IsStepOn}
 use Rattle.record_rule.specs.World.{AreUntouched, Parts, IsLeftBy, IsLeft, overshoot_by, overshoot, Places, Rule}
-use Rattle.record_rule.specs.Kinds.{draw_step, drawn_share, drew, drawing_after, share_in, DrewNew, Lawful}
-use Rattle.record_rule.proofs.Lists.{below_at, at_below, get_at, each_set, map_set_same}
-use Rattle.record_rule.proofs.Owned.{seen_by, unseen_by}
-use Rattle.record_memory.specs.declared.books.Moves.{Moves}
-use Rattle.record_rule.specs.Kinds.{drew_one}
-use Rattle.record_rule.proofs.Counts.{Balances, counts_calm, counts_moved, balances_drawn}
+use Rattle.record_rule.specs.Kinds.{draw_step, drawn_share, drew, drew_one, drawing_after, share_in, DrewNew, Lawful}
+use Rattle.record_rule.proofs.Lists.{below_at, get_at}
+use Rattle.record_rule.proofs.Counts.{counts_calm}
 use Rattle.record_rule.proofs.Rebuilt.{LeavesDrawn, no_field, rebuilt}
-use Rattle.record_rule.proofs.Retirements.{keeps_retired, retires_none, shows_same}
-use Rattle.record_rule.proofs.RetirementMoves.{drawn_shows}
+use Rattle.record_rule.proofs.Retirements.{keeps_retired}
 use Rattle.record_rule.proofs.Steps.{book}
-use Rattle.record_rule.proofs.Quiet.{books_after, IsSameBook, outline_same, outline_after}
+use Rattle.record_rule.proofs.Quiet.{books_after, IsSameBook, outline_same}
+use Rattle.record_rule.proofs.DrawnRecords.{DrawsOne, not_had, is_had, draws_one}
 
 -- each caller goes past the last record at most once
 past_once : (d : Drawing) → overshoot_by d ≤ 1
@@ -50,11 +42,11 @@ past_each : (books : List Book) → sum_by overshoot books ≤ length books
 past_each [] = omega arith
 past_each (b ∷ bs) = let e = sum_by-cons overshoot b bs in let h = past_each bs in let g = past_once b.drawing in omega arith
 
--- the record that is drawn
-abbrev drawn_record : ℕ → ℕ → Record → Record
-drawn_record c first r = record r { place = Of c (Handing 0); generation = first; taken_number = 0 }
-
 module _ (setup : Setup) (is_setup : IsSetup setup) (bump : setup.allocator ≡ Bump) where
+  -- the allocator is no other
+  no_once : ¬ (setup.allocator ≡ Once)
+  no_once e = let same : Bump ≡ Once = sym bump ∙ e in let none : ⊥ = cc in none
+
   -- a record that is left lies behind those that are drawn
   left_from : (m : Memory) (i : ℕ) → IsLeft setup m i → m.drawn ≤ i
   left_from m i h = subst (λ (a : AllocatorName). IsLeftBy a setup m i) bump h
@@ -63,63 +55,32 @@ module _ (setup : Setup) (is_setup : IsSetup setup) (bump : setup.allocator ≡ 
   left_to : (m : Memory) (i : ℕ) → m.drawn ≤ i → IsLeft setup m i
   left_to m i h = subst (λ (a : AllocatorName). IsLeftBy a setup m i) (sym bump) h
 
-  -- the record that is drawn is sound
-  drawn_sound : (i c : ℕ) (r : Record) → c < setup.callers → r.place ≡ Undrawn → IsSound setup i r → IsSound setup i (drawn_record c setup.first r)
-  drawn_sound i c r caller at s = let old : r.generation + 1 ≡ setup.first = s.unborn at in record {
-    eight = s.eight;
-    generations = λ f h. s.generations f h ∙ ap (λ (p : Place). carried p r.generation f) at ∙ (let e : r.generation ≡ setup.first - 1 = omega arith in e)
-        ∙ sym (ap (λ b. cond b setup.first (setup.first - 1)) (le-ltb f 0 (omega arith)));
-    links = s.links;
-    within = is_setup.first;
-    roots = λ h. let no : ⊥ = (let e : Undrawn ≡ Root = sym at ∙ s.roots h in cc) in absurd no;
-    no_root = λ e. let no : ⊥ = cc in absurd no;
-    root_generation = λ e. let none : ⊥ = cc in absurd none;
-    unborn = λ e. let no : ⊥ = cc in absurd no;
-    blank = λ e. let no : ⊥ = cc in absurd no;
-    born = λ _. omega arith;
-    unfinished = λ d n e. let z : 0 ≡ n = cc in omega arith;
-    callers = λ d t e. let z : c ≡ d = cc in omega arith;
-    renewable = λ d e. let none : ⊥ = cc in absurd none;
-    shelved = λ k e. let none : ⊥ = cc in absurd none;
-  }
-
   -- the words that no step changes are those of another allocator
   drawn_untouched : (m : Memory) (n : ℕ) → AreUntouched setup m.lock m.blank m.drawn m.cursors → AreUntouched setup m.lock m.blank (n + 1) m.cursors
   drawn_untouched m n u = record {
     lock_is = u.lock_is;
     blank_is = u.blank_is;
     cursors_are = u.cursors_are;
-    drawn_is = λ e. let same : Bump ≡ Once = sym bump ∙ e in let none : ⊥ = cc in absurd none;
+    drawn_is = λ e. absurd (no_once e);
     cursors_within = u.cursors_within;
   }
 
-  -- after the draw of the record at n, one more is drawn
-  drawn_places : (records : List Record) (books : List Book) (m : Memory) (c n : ℕ) (b own : Book) (r : Record) → Places setup records books m → get_elem? books c ≡ some b → get_elem? records n ≡ some r
-      → m.drawn ≡ n → n < setup.records → own.caller ≡ b.caller → own.mine ≡ set b.mine n (Some (drawn_share setup.first)) → overshoot own ≡ overshoot b → (own.drawing ≡ Past → ⊥)
-      → Places setup (set records n (drawn_record c setup.first r)) (set books c own) record m { drawn = n + 1 }
-  drawn_places records books m c n b own r p at there is lt caller mine weight fresh =
-      let new : Record = drawn_record c setup.first r in let caller_lt : c < setup.callers = let h = below_at books c b at in let e = p.callers in omega arith in
-      let untouched : r.place ≡ Undrawn = p.left n r there (left_to m n (omega arith)) in let s = p.sound n r there in let f = p.books_fit c b at in
-      let m' : Memory = record m { drawn = n + 1 } in record {
-        many = length-set records n new ∙ p.many;
-        rows = map_set_same (λ (x : Record). x.row) records n r new there refl ∙ p.rows;
-        sound = each_set (IsSound setup) records n new p.sound (drawn_sound n c r caller_lt untouched s);
-        left = λ i x e l. ⊎_elim (λ t. let h = left_from m' i l in let k : i ≡ n = t.0 in absurd (omega arith)) (λ t. p.left i x t.1 (left_to m i (let h = left_from m' i l in omega arith))) (at_set records n i new x e);
-        undrawn = λ i x e u. ⊎_elim (λ t. let no : ⊥ = (let q : new ≡ x = t.1 in let v : Of c (Handing 0) ≡ Undrawn = ap (λ (y : Record). y.place) q ∙ u in cc) in absurd no)
-            (λ t. left_to m' i (let h = left_from m i (p.undrawn i x t.1 u) in let ne : i ≢ n = t.0 in omega arith)) (at_set records n i new x e);
-        drawn = omega arith;
-        untouched = drawn_untouched m n p.untouched;
-        shelves = subst (λ (l : List PoolCell). ShelvesFit l m.shelves) (sym (map_set_same pool_cell records n r new there (sym (ap (λ (q : Place). pool_at q r) untouched)))) p.shelves;
-        callers = length-set books c own ∙ p.callers;
-        books_fit = books_after setup m m' records (set records n new) books c own (λ h. omega arith)
-            (λ d ne. map_set_same (share d) records n r new there (unseen_by c d (Handing 0) new refl ne ∙ sym (ap (λ (q : Place). share_at d q r) untouched)))
-            record {
-              number = caller ∙ f.number;
-              mine = mine ∙ ap (λ xs. set xs n (Some (drawn_share setup.first))) f.mine ∙ ap (λ h. set (map (share c) records) n h) (sym (seen_by c (Handing 0) new refl ∙ ap Some (λ k. record { standing = Handing 0; generation = setup.first; taken_number = 0; words = s.blank untouched k })))
-                  ∙ sym (map-set (share c) records n new);
-              past = λ h. absurd (fresh h);
-            } p.books_fit;
-      }
+  -- where one is left, one more is drawn
+  draws_next : (m : Memory) (n : ℕ) → m.drawn ≡ n → n < setup.records → AreUntouched setup m.lock m.blank m.drawn m.cursors → DrawsOne setup m record m { drawn = n + 1 } n
+  draws_next m n is lt untouched = let m' : Memory = record m { drawn = n + 1 } in record {
+    within = lt;
+    was = left_to m n (omega arith);
+    gone = λ l. let h = left_from m' n l in omega arith;
+    fewer = λ j l. left_to m j (let h = left_from m' j l in omega arith);
+    others = λ j ne l. left_to m' j (let h = left_from m j l in omega arith);
+    grows = omega arith;
+    drawn = omega arith;
+    untouched = drawn_untouched m n untouched;
+    rows = refl;
+    shelves = refl;
+    epoch = refl;
+    announced = refl;
+  }
 
   -- no record is left, and this caller's last look was older than that
   passed_places : (records : List Record) (books : List Book) (m : Memory) (c n : ℕ) (b own : Book) → Places setup records books m → get_elem? books c ≡ some b
@@ -177,52 +138,41 @@ module _ (setup : Setup) (is_setup : IsSetup setup) (bump : setup.allocator ≡ 
       wide : length (set s.words 0 (n + 1)) ≡ size setup.callers setup.records
       wide = length-set s.words 0 (n + 1) ∙ u.wide
 
-      -- the caller didn't have the record before
-      old_none : n < setup.records → share_in v (n + 1) ≡ None
-      old_none lt = let there = at_below u.records n (let k = u.places.many in omega arith) in let untouched : there.0.place ≡ Undrawn = u.places.left n there.0 there.1 (left_to m n (let e = found in omega arith)) in
-          ap (λ (k : ℕ). get_or v.own.mine k None) (let e : n + 1 - 1 ≡ n = omega arith in e) ∙ ap (λ l. get_or l n None) (u.places.books_fit c v.own mine).mine
-          ∙ get_at (map (share c) u.records) n (share c there.0) None (at_map (share c) u.records n there.0 there.1) ∙ ap (λ (q : Place). share_at c q there.0) untouched
+      -- where one was left, it is drawn
+      one_drawn : n < setup.records → DrawsOne setup m (memory setup.callers setup.records (set s.words 0 (n + 1))) n
+      one_drawn lt = subst (λ (x : Memory). DrawsOne setup m x n) (sym stored) (draws_next m n found lt u.places.untouched)
 
-      -- where one was left, the caller has it now
+      -- the caller didn't have it before, and has it now
       new_to : v.setup ≡ setup → n < setup.records → (share_in v (n + 1) ≡ None) × (share_in (drew v n) (n + 1) ≡ Some (drawn_share v.setup.first))
       new_to same lt = (
-        old_none lt,
-        let one : n + 1 - 1 ≡ n = omega arith in let long : n < length v.own.mine = (let e = ap length (u.places.books_fit c v.own mine).mine in let l = length-map u.records (share c) in let k = u.places.many in omega arith) in
-            ap (λ (k : ℕ). get_or (drew v n).own.mine k None) one
-            ∙ ap (λ b. get_or (cond b (set v.own.mine n (Some (drawn_share v.setup.first))) v.own.mine) n None) (lt-ltb n v.setup.records (let e : v.setup.records ≡ setup.records = ap (λ (k : Setup). k.records) same in omega arith))
-            ∙ get_or-set_same v.own.mine n (Some (drawn_share v.setup.first)) None long,
+        not_had setup is_setup shape cover s u id v at present n lt (one_drawn lt).was,
+        ap (λ b. get_or (cond b (set v.own.mine n (Some (drawn_share v.setup.first))) v.own.mine) (n + 1 - 1) None) (lt-ltb n v.setup.records (let e : v.setup.records ≡ setup.records = ap (λ (k : Setup). k.records) same in omega arith))
+        ∙ is_had setup is_setup shape cover s u id v at present n (Some (drawn_share v.setup.first)) lt,
       )
 
       -- which is no less than before, and than the step finds
-      grew : LeavesDrawn m.drawn (memory setup.callers setup.records (set s.words 0 (n + 1))).drawn (draw_step v n)
-      grew = let e = found in let then = ap (λ (x : Memory). x.drawn) stored in record { grows = omega arith; found = λ _. omega arith }
+      grew : (moves : Moves) → LeavesDrawn setup m (memory setup.callers setup.records (set s.words 0 (n + 1))) c v.own.moves moves (draw_step v n)
+      grew moves = let e = found in let then = ap (λ (x : Memory). x.drawn) stored in record {
+        grows = omega arith;
+        found = λ _. omega arith;
+        own = λ once. absurd (no_once once);
+        others = λ once. absurd (no_once once);
+      }
 
       -- it is a step that its caller may make
-      drawn_fits : StepFits setup c (draw_step v n)
-      drawn_fits = no_field setup c (draw_step v n) refl (inr (refl, bump)) (λ i f e. cc)
+      may_add : IsStepOn setup c Drawn Add
+      may_add = inr (refl, bump)
 
       -- the rule stays where one was left
-      draws_one : (own : Book) → own.caller ≡ c → IsSameBook v.own own → own.steps ≡ v.own.steps ++ draw_step v n ∷ [] → n < setup.records → own.mine ≡ set v.own.mine n (Some (drawn_share setup.first)) → own.drawing ≡ Unsure → own.moves ≡ drew_one v.own.moves → Kept s id v own
-      draws_one own caller same steps lt mine_is drawing moves =
-          let there = at_below u.records n (let k = u.places.many in omega arith) in let r : Record = there.0 in let new : Record = drawn_record c setup.first r in
-          let untouched : r.place ≡ Undrawn = u.places.left n r there.1 (left_to m n (let e = found in omega arith)) in
-          let weight : overshoot own ≡ overshoot v.own = ap overshoot_by drawing ∙ sym (ap overshoot_by below) in
-          rebuilt shape cover setup s u id v at present (set s.words 0 (n + 1)) wide (set u.records n new) own (draw_step v n) drawn_fits caller same.answered same.guard same.notes steps grew
-          (retires_none setup.first u.records (set u.records n new) (draw_step v n) refl
-          (shows_same setup.first u.records n r new there.1 (let e = (u.places.sound n r there.1).unborn untouched in omega arith) (drawn_shows setup.first r new ((u.places.sound n r there.1).unborn untouched) refl refl)))
-          (subst (λ (x : Memory). Places setup (set u.records n new) (set u.books c own) x) (sym stored)
-          (drawn_places u.records u.books m c n v.own own r u.places mine there.1 found lt caller mine_is weight (λ h. let no : ⊥ = (let e : Unsure ≡ Past = sym drawing ∙ h in cc) in no)))
-          (subst (Parts shape cover setup) (sym (outline_after m (memory setup.callers setup.records (set s.words 0 (n + 1))) u.taken_out u.updates (ap (λ (x : Memory). x.epoch) stored) (ap (λ (x : Memory). x.announced) stored) u.books c v.own own mine same u.records n r new there.1 record {
-            shape = sym (ap (λ (q : Place). shape_at q r) untouched);
-            scheme = sym (ap (λ (q : Place). scheme_at q r) untouched);
-            taken = ap untaken (sym ((u.places.sound n r there.1).unborn untouched)) ∙ sym (ap (λ (q : Place). taken_at q r) untouched);
-          })) u.parts)
-          (counts_moved setup.first u.records u.books c v.own own mine u.counts n r new there.1 (subst (λ (z : Moves). Balances setup.first v.own.moves z r new) (sym moves) (balances_drawn setup.first v.own.moves r new untouched refl refl ((u.places.sound n r there.1).unborn untouched))))
+      draws_next_one : (own : Book) → own.caller ≡ c → IsSameBook v.own own → own.steps ≡ v.own.steps ++ draw_step v n ∷ [] → n < setup.records → own.mine ≡ set v.own.mine n (Some (drawn_share setup.first)) → own.drawing ≡ Unsure → own.moves ≡ drew_one v.own.moves → Kept s id v own
+      draws_next_one own caller same steps lt mine_is drawing moves =
+          draws_one setup is_setup shape cover s u id v at present (set s.words 0 (n + 1)) n (draw_step v n) own wide (one_drawn lt) refl may_add (λ i f e. cc) (λ i g. refl) (grew own.moves) caller same steps mine_is
+          (λ h. let no : ⊥ = (let e : Unsure ≡ Past = sym drawing ∙ h in cc) in absurd no) moves
 
       -- and where none was
       draws_none : (own : Book) → own.caller ≡ c → IsSameBook v.own own → own.steps ≡ v.own.steps ++ draw_step v n ∷ [] → setup.records ≤ n → own.mine ≡ v.own.mine → own.drawing ≡ Past → own.moves ≡ v.own.moves → Kept s id v own
       draws_none own caller same steps past mine_is drawing moves =
-          rebuilt shape cover setup s u id v at present (set s.words 0 (n + 1)) wide u.records own (draw_step v n) drawn_fits caller same.answered same.guard same.notes steps grew
+          rebuilt shape cover setup s u id v at present (set s.words 0 (n + 1)) wide u.records own (draw_step v n) (no_field setup c (draw_step v n) refl may_add (λ i f e. cc)) caller same.answered same.guard same.notes steps (grew own.moves)
           (keeps_retired setup.first u.records (draw_step v n) refl)
           (subst (λ (x : Memory). Places setup u.records (set u.books c own) x) (sym stored)
           (passed_places u.records u.books m c n v.own own u.places mine found past caller mine_is (ap overshoot_by drawing) (ap overshoot_by below)))
@@ -235,7 +185,7 @@ module _ (setup : Setup) (is_setup : IsSetup setup) (bump : setup.allocator ≡ 
 
       -- so it stays
       draws_by : (t : Bool) → ltb n setup.records ≡ t → v.setup ≡ setup → Kept s id v (drew v n).own
-      draws_by true is same = draws_one (drew v n).own refl same_book refl (ltb-true n setup.records is)
+      draws_by true is same = draws_next_one (drew v n).own refl same_book refl (ltb-true n setup.records is)
           (ap (λ (k : Setup). cond (ltb n k.records) (set v.own.mine n (Some (drawn_share k.first))) v.own.mine) same ∙ ap (λ b. cond b (set v.own.mine n (Some (drawn_share setup.first))) v.own.mine) is)
           (ap (λ (x : Drawing). drawing_after x v.setup.records (draw_step v n)) below ∙ ap (λ (k : Setup). cond (ltb n k.records) Unsure Past) same ∙ ap (λ b. cond b Unsure Past) is)
           (ap (λ (k : Setup). cond (ltb n k.records) (drew_one v.own.moves) v.own.moves) same ∙ ap (λ b. cond b (drew_one v.own.moves) v.own.moves) is)

@@ -22,7 +22,7 @@ use Rattle.record_rule.proofs.Lists.{map_set_same}
 use Rattle.record_rule.proofs.Fields.{places_beside}
 use Rattle.record_rule.proofs.Quiet.{places_calm, calm_after}
 use Rattle.record_rule.proofs.Counts.{counts_calm}
-use Rattle.record_rule.proofs.Rebuilt.{no_field, elsewhere, rebuilt}
+use Rattle.record_rule.proofs.Rebuilt.{no_field, counters, elsewhere, rebuilt}
 use Rattle.record_rule.proofs.Retirements.{keeps_retired}
 use Rattle.record_rule.proofs.Steps.{before, book, kept_calm}
 use Rattle.record_rule.proofs.Safe.{safe}
@@ -45,7 +45,7 @@ module _ (shape : ShapeFacts) (cover : CoverFacts) (covering : CoverLaws cover) 
           let words' : List ℕ = set s.words 1 new in let m' : Memory = memory setup.callers setup.records words' in let was : Outline = before shape cover setup s u in let mine = book shape cover setup s u id v at present in
           let put_is : m' ≡ put m0 Epoch new = stores setup.callers setup.records s.words Epoch new u.wide tt in
           let found : m0.epoch ≡ old = sym (loads setup.callers setup.records s.words Epoch tt) ∙ eqb-true n old e in
-          rebuilt shape cover setup s u id v at present words' (length-set s.words 1 new ∙ u.wide) u.records own t (no_field setup c t refl (inr refl) (λ i f e. cc)) refl refl refl refl refl (elsewhere m0.drawn m'.drawn t (ap (λ (x : Memory). x.drawn) put_is) (λ e. cc))
+          rebuilt shape cover setup s u id v at present words' (length-set s.words 1 new ∙ u.wide) u.records own t (no_field setup c t refl (inr refl) (λ i f e. cc)) refl refl refl refl refl (elsewhere t (ap counters put_is) refl (λ e. cc))
           (keeps_retired setup.first u.records t refl)
           (subst (Places setup u.records (set u.books c own)) (sym put_is) (places_beside setup u.records (set u.books c own) m0 new m0.announced (places_calm setup u.records u.books m0 c v.own own mine refl refl (calm_after v.own.drawing v.setup.records t tt) u.places)))
           (subst (Parts shape cover setup) (λ k. record {

@@ -37,7 +37,7 @@ use Rattle.record_rule.specs.Links.{Origin, index_of, generation_at, near_of, Ho
 use Rattle.record_rule.specs.Locks.{LocksFit}
 use Rattle.record_rule.specs.LockedLinks.{IsUnlocked}
 use Rattle.record_rule.proofs.Lists.{below_at, map_set_same}
-use Rattle.record_rule.proofs.Rebuilt.{starts_itself, one_more, Steps, elsewhere, stepped, made_more}
+use Rattle.record_rule.proofs.Rebuilt.{starts_itself, one_more, Steps, counters, elsewhere, stepped, made_more}
 use Rattle.record_rule.proofs.Retirements.{LeavesRetirements, link_retires_none, same_records, same_then, shows_moved}
 use Rattle.record_rule.proofs.Quiet.{IsCalm, calm_after, places_calm}
 use Rattle.record_rule.proofs.Owners.{index_in}
@@ -290,7 +290,7 @@ module _ (shape : ShapeFacts) (cover : CoverFacts) (setup : Setup) (is_setup : I
         -- A step that leaves the new link in the node's word keeps the rule, where what else it changed does
         pub leaves : Rule shape cover setup record { words = words'; homes = s.homes; views = set s.views id view_after }
         leaves = stepped shape cover setup s u id v view_after at present words' (length-set s.words word (link_word setup o new) ∙ u.wide) (set records i r') taken_out updates' more grown_by.more steps
-            t refl (elsewhere m.drawn m'.drawn t (ap (λ (x : Memory). x.drawn) stored_words) other) retired_after places_after
+            t refl (elsewhere t (ap counters stored_words) refl other) retired_after places_after
             (subst (Parts shape cover setup) (sym now_is) record {
               taken = taken;
               held = held_after;

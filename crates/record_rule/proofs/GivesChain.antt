@@ -35,7 +35,7 @@ use Rattle.record_rule.specs.World.{Places, Parts, Rule}
 use Rattle.record_rule.proofs.Lists.{one_at, map_set_same}
 use Rattle.record_rule.proofs.Owned.{share_of}
 use Rattle.record_rule.proofs.Quiet.{calm_after}
-use Rattle.record_rule.proofs.Rebuilt.{no_field, elsewhere, rebuilt}
+use Rattle.record_rule.proofs.Rebuilt.{no_field, counters, elsewhere, rebuilt}
 use Rattle.record_rule.proofs.Retirements.{ShowsSame, retires_none}
 use Rattle.record_rule.proofs.ShelfRetirements.{on_shows}
 use Rattle.record_rule.proofs.Steps.{before, book, kept_calm}
@@ -161,7 +161,7 @@ module _ (shape : ShapeFacts) (cover : CoverFacts) (setup : Setup) (ok : IsSetup
   pub kept : Rule shape cover setup record { words = set s.words (4 + k) value; homes = s.homes; views = set s.views id w }
   kept = let words' : List ℕ = set s.words (4 + k) value in let m' : Memory = memory setup.callers setup.records words' in let was : Outline = before shape cover setup s u in let mine = book shape cover setup s u id v at present in
       let put_is : m' ≡ put m (Shelf k) value = stores setup.callers setup.records s.words (Shelf k) value u.wide below in
-      rebuilt shape cover setup s u id v at present words' (length-set s.words (4 + k) value ∙ u.wide) after own t (no_field setup c t refl (inr (inr refl)) (λ i f e. cc)) refl refl refl refl refl (elsewhere m.drawn m'.drawn t (ap (λ (x : Memory). x.drawn) put_is) (λ e. cc))
+      rebuilt shape cover setup s u id v at present words' (length-set s.words (4 + k) value ∙ u.wide) after own t (no_field setup c t refl (inr (inr refl)) (λ i f e. cc)) refl refl refl refl refl (elsewhere t (ap counters put_is) refl (λ e. cc))
       (retires_none setup.first u.records after t refl (subst (λ (l : List Record). ShowsSame setup.first l after) back (on_shows c k setup.first after)))
       (subst (Places setup after (set u.books c own)) (sym put_is) (on_places setup c k below after u.books m value v.own own (subst (λ (l : List Record). Places setup l u.books m) (sym back) u.places) mine chain refl refl (calm_after v.own.drawing v.setup.records t tt)))
       (subst (Parts shape cover setup) (λ z. record {

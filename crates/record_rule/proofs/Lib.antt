@@ -12,7 +12,9 @@ pub mod TakenMoves
 pub mod Owned
 pub mod Steps
 pub mod Loads
+pub mod DrawnRecords
 pub mod Draws
+pub mod OwnDraws
 pub mod Fields
 pub mod Owners
 pub mod OpeningWords

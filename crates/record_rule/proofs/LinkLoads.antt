@@ -148,7 +148,7 @@ module _ (shape : ShapeFacts) (cover : CoverFacts) (setup : Setup) (s : State (U
           start_made = started;
           made = λ h. made_more setup c v.own.steps t finds h;
         }
-        t refl (elsewhere m.drawn m.drawn t refl other) (keeps_retired setup.first u.records t (leaving_quiet t.kind leaving))
+        t refl (elsewhere t refl refl other) (keeps_retired setup.first u.records t (leaving_quiet t.kind leaving))
         (places_calm setup u.records u.books m c v.own own own_there refl refl (calm_after v.own.drawing v.setup.records t (leaving_calm t.kind leaving)) u.places)
         (subst (Parts shape cover setup) (outline_held m u.records u.books c v.own own u.taken_out u.updates own_there refl refl refl) (held_parts g notes roots recent.updates_since words held known told covered)) (counts_calm setup.first u.records u.books c v.own own own_there u.counts refl))
 

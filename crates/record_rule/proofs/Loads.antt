@@ -1,9 +1,11 @@
 -- Loads of control words.
-use Rattle.std.proofs.Common.{◌≡◌, ℕ, ◌-◌, ◌≤◌, ◌<◌, List, get_or, cond, true, sym, refl, ap, ◌∙◌, subst, arith}
+use Rattle.std.proofs.Common.{◌≡◌, ℕ, ◌+◌, ◌-◌, ◌*◌, ◌≤◌, ◌<◌, List, length, drop, get_or, cond, true, sym, refl, ap, ◌∙◌, subst, arith}
 use mathlib.Core.Option.{some}
 use lib.ListN.{get_elem?}
 use Rattle.atomic_table.specs.Table.{State}
 use Rattle.std.proofs.lemmas.Bool.{lt-ltb}
+use Rattle.std.proofs.lemmas.List.{length-take, length-drop}
+use Rattle.set_model.specs.declared.names.AllocatorName.TheVariants.{Once}
 use Rattle.record_memory.specs.declared.books.Setup.{Setup}
 use Rattle.record_memory.specs.declared.books.View.{View}
 use Rattle.record_memory.specs.declared.books.Place.{Place}
@@ -11,16 +13,17 @@ use Rattle.record_memory.specs.declared.books.Place.TheVariants.{Root}
 use Rattle.record_memory.specs.declared.books.Drawing.{Drawing}
 use Rattle.record_memory.specs.declared.books.Drawing.TheVariants.{Unsure, Below, Past}
 use Rattle.record_memory.specs.Memory.{Memory, memory, address, word_at, IsWord}
-use Rattle.record_memory.specs.declared.steps.Word.TheVariants.{Field}
-use Rattle.record_memory.proofs.Stores.{address-word_at, is_word}
+use Rattle.record_memory.specs.declared.steps.Word.TheVariants.{Cursor, Field}
+use Rattle.record_memory.proofs.Stores.{loads, address-word_at, is_word}
 use Rattle.row_words.specs.Packing.{own_in}
 use Rattle.record_rule.specs.Records.{Record, carried}
 use Rattle.record_rule.specs.Facts.{ShapeFacts, CoverFacts}
 use Rattle.record_rule.specs.Recorded.{IsRootIndex, StepFits, FoundWithin}
-use Rattle.record_rule.specs.World.{Rule}
+use Rattle.record_rule.specs.World.{range, Rule}
 use Rattle.record_rule.specs.Kinds.{control_load, loaded_control, ShowsBelow, drawing_after, Lawful}
+use Rattle.record_rule.specs.OwnDraws.{ShowsDrawn}
 use Rattle.record_rule.proofs.Steps.{book, kept_calm}
-use Rattle.record_rule.proofs.Lists.{at_below}
+use Rattle.record_rule.proofs.Lists.{below_at, at_below, get_at}
 use Rattle.record_rule.proofs.Owners.{load_kept}
 use Rattle.record_rule.proofs.Rebuilt.{load_on, not_held}
 
@@ -59,9 +62,33 @@ module _ (shape : ShapeFacts) (cover : CoverFacts) (setup : Setup) (s : State (U
             ap (λ (z : ℕ). own_in (get_or s.words z 0)) (sym (address-word_at c setup.records word) ∙ ap (address c) on) ∙ root_found i f root lies.2,
       ))
 
+  abbrev m : Memory
+  m = memory setup.callers setup.records s.words
+
+  -- the table has the caller
+  pub caller_in : v.own.caller < setup.callers
+  caller_in = let h = below_at u.books v.own.caller v.own (book shape cover setup s u id v at present) in let e = u.places.callers in omega arith
+
+  -- and a cursor of it
+  pub cursor_in : v.own.caller < length m.cursors
+  unfolding memory
+  cursor_in = let k : ℕ = 20 + 4 * setup.callers in let a = length-take setup.callers (drop k s.words) in let b = length-drop k s.words in let w = u.wide in let h = caller_in in omega arith
+
+  -- which is the number of records that it drew
+  pub own_cursor : setup.allocator ≡ Once → get_or s.words (address setup.callers (Cursor v.own.caller)) 0 ≡ v.own.moves.drawn
+  own_cursor once = loads setup.callers setup.records s.words (Cursor v.own.caller) caller_in ∙ u.cursors once v.own.caller v.own (book shape cover setup s u id v at present)
+
+  -- as a load of it shows
+  pub shows_drawn : (word : ℕ) → ShowsDrawn v word (get_or s.words word 0)
+  shows_drawn word first named = let c : ℕ = v.own.caller in let same = (u.seated id v at).setup_is present in let once : setup.allocator ≡ Once = sym (ap (λ (k : Setup). k.allocator) same) ∙ named in
+      let found : get_or s.words word 0 ≡ get_or s.words (address setup.callers (Cursor c)) 0 = ap (λ (z : ℕ). get_or s.words z 0) (first ∙ ap (λ (k : Setup). address k.callers (Cursor c)) same) in
+      let there = at_below m.cursors c cursor_in in let few : there.0 ≤ range setup = u.places.untouched.cursors_within once c there.0 there.1 in
+      let here : get_or s.words (address setup.callers (Cursor c)) 0 ≡ there.0 = loads setup.callers setup.records s.words (Cursor c) caller_in ∙ get_at m.cursors c there.0 0 there.1 in
+      (found ∙ own_cursor once, subst (λ (k : Setup). get_or s.words word 0 ≤ range k) (sym same) (subst (λ (z : ℕ). z ≤ range setup) (sym (found ∙ here)) few))
+
 module _ (shape : ShapeFacts) (cover : CoverFacts) (setup : Setup) where
   -- a load of any control word changes nothing, and its caller's book has it
-  pub loads_control : (id : ℕ) (v : View) (word : ℕ) → v.present ≡ true → Lawful (Rule shape cover setup) id v word (λ n. n) (λ n w. (w ≡ loaded_control v word n) × ShowsBelow v word n)
+  pub loads_control : (id : ℕ) (v : View) (word : ℕ) → v.present ≡ true → Lawful (Rule shape cover setup) id v word (λ n. n) (λ n w. (w ≡ loaded_control v word n) × ShowsBelow v word n × ShowsDrawn v word n)
   loads_control id v word present s u at =
       let n : ℕ = get_or s.words word 0 in let m : Memory = memory setup.callers setup.records s.words in (
         loaded_control v word n,
@@ -70,5 +97,6 @@ module _ (shape : ShapeFacts) (cover : CoverFacts) (setup : Setup) where
           refl,
           λ first lt. below_then v.own.drawing setup m v word n refl (λ past. (u.places.books_fit v.own.caller v.own (book shape cover setup s u id v at present)).past past) first (found_drawn setup s.words word first)
               ((u.seated id v at).setup_is present) lt,
+          shows_drawn shape cover setup s u id v at present word,
         ),
       )

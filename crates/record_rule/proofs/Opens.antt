@@ -337,6 +337,7 @@ module _ (setup : Setup) (ok : IsSetup setup) (first : Guard) where
       places = opening_places;
       parts = opening_parts;
       counts = opening_counts;
+      cursors = λ _ c b e. let x = at_books setup first 0 setup.callers c b e in ap (λ (l : List ℕ). get_or l c 0) cursors_are ∙ get_or-replicate setup.callers c 0 0 x.0 ∙ ap (λ (w : Book). w.moves.drawn) x.1;
       retirements = opening_retirements;
       start_made = λ c b e. let x = at_books setup first 0 setup.callers c b e in let z = ap (λ (w : Book). w.guard.start_step) x.1 in let n = ap (λ (g : Guard). g.start_step) is_first in let k = covering.unstarted.2 in omega arith;
       made = λ c b e n t at. let x = at_books setup first 0 setup.callers c b e in let z : At {A = _} [] n t = ap (λ (w : Book). get_elem? w.steps n) x.1 ∙ at in let none : ⊥ = cc in absurd none;

@@ -30,8 +30,8 @@ use Rattle.record_rule.specs.Kinds.{field_store, field_load, stored_as, stored, 
 use Rattle.record_rule.proofs.Lists.{below_at, get_at, map_at}
 use Rattle.record_rule.proofs.Owned.{at_some, share_of, has}
 use Rattle.record_rule.specs.Counts.{retired_as}
-use Rattle.record_rule.proofs.Counts.{counts_moved, balances_stored, stored_had}
-use Rattle.record_rule.proofs.Rebuilt.{not_held, elsewhere, rebuilt}
+use Rattle.record_rule.proofs.Counts.{counts_moved, balances_stored, stored_had, stored_drawn}
+use Rattle.record_rule.proofs.Rebuilt.{not_held, counters, elsewhere, rebuilt}
 use Rattle.record_rule.proofs.Retirements.{LeavesRetirements, stored_none, shows_moved, stored_here}
 use Rattle.record_rule.proofs.RetirementMoves.{beside_stamp, over_other}
 use Rattle.record_rule.proofs.Quiet.{calm_after, IsSameBook, outline_scheme, outline_after}
@@ -223,7 +223,7 @@ module _ (shape : ShapeFacts) (cover : CoverFacts) (setup : Setup) (s : State (U
     -- so the rule stays where the facts hold
     kept_with : Parts shape cover setup now → Kept i f value h
     kept_with parts = rebuilt shape cover setup s u id v at present (words_after i f value) (length-set s.words (address setup.callers (Field i f)) value ∙ u.wide) (set u.records (i - 1) new) (after i f value h).own _
-        (store_fits i f value h r pos there is whole may.below (stored_part h.standing r.row f (u.places.sound (i - 1) r there).eight may.field may.below) may.own) refl refl refl refl refl (elsewhere m.drawn _ _ (ap (λ (x : Memory). x.drawn) stored_words) (λ e. cc))
+        (store_fits i f value h r pos there is whole may.below (stored_part h.standing r.row f (u.places.sound (i - 1) r there).eight may.field may.below) may.own) refl refl refl refl refl (elsewhere _ (ap counters stored_words) (stored_drawn h.standing v.own.moves).0 (λ e. cc))
         retires_none_here places_after parts
         (counts_moved setup.first u.records u.books c v.own (after i f value h).own own_there u.counts (i - 1) r new there (balances_stored setup.first c h.standing v.own.moves r new is refl refl))
 

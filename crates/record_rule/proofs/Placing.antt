@@ -21,7 +21,7 @@ use Rattle.record_rule.specs.Placing.{placed_view, MayPlace}
 use Rattle.record_rule.proofs.Lists.{map_set_same}
 use Rattle.record_rule.proofs.Counts.{counts_calm}
 use Rattle.record_rule.proofs.Quiet.{calm_after, places_calm}
-use Rattle.record_rule.proofs.Rebuilt.{starts_itself, one_more, made_more, stepped}
+use Rattle.record_rule.proofs.Rebuilt.{starts_itself, one_more, made_more, leaves_drawn, stepped}
 use Rattle.record_rule.proofs.Retirements.{keeps_retired}
 use Rattle.record_rule.proofs.Loads.{load_within, control_fits}
 use Rattle.record_rule.proofs.Steps.{before, book, own_behind}
@@ -61,7 +61,7 @@ module _ (shape : ShapeFacts) (cover : CoverFacts) (setup : Setup) where
               start_made = one_more v.own.guard.start_step v.own.steps t;
               made = made_more setup c v.own.steps t (control_fits shape cover setup s u id v at present word);
             }
-            t refl record { grows = omega arith; found = load_within setup s.words v word } (keeps_retired setup.first u.records t refl)
+            t refl (leaves_drawn refl refl (load_within setup s.words v word)) (keeps_retired setup.first u.records t refl)
             (places_calm setup u.records u.books m c v.own w.own mine refl refl (calm_after v.own.drawing v.setup.records t tt) u.places)
             (subst (Parts shape cover setup) (λ k. record {
               shapes = was.shapes;

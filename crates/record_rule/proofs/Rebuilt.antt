@@ -1,5 +1,5 @@
 -- The rule after a step: what a seat's view has to do with the books, and the rule put together from its parts.
-use Rattle.std.proofs.Common.{◌≡◌, ◌≢◌, ℕ, zero, suc, ◌≤◌, List, [], ◌∷◌, ◌++◌, length, length-append, set, Bool, true, sym, refl, ap, ◌∙◌, subst, arith, ⊎_elim, Some, None, inl}
+use Rattle.std.proofs.Common.{◌≡◌, ◌≢◌, ℕ, zero, suc, ◌≤◌, List, [], ◌∷◌, ◌++◌, length, length-append, get_or, set, Bool, true, sym, refl, ap, ◌∙◌, subst, arith, ⊎_elim, Some, None, inl}
 use Rattle.std.proofs.lemmas.List.{append-nil, append_assoc}
 use mathlib.Core.Option.{some, some-injective}
 use Rattle.row_words.specs.Refs.{RefParts}
@@ -7,12 +7,14 @@ use lib.ListN.{get_elem?}
 use Rattle.atomic_table.specs.Table.{State}
 use Rattle.atomic_table.proofs.Lists.{at_set, set_here, set_else}
 use Rattle.set_model.specs.declared.calls.Update.{Update}
+use Rattle.set_model.specs.declared.names.AllocatorName.TheVariants.{Once}
 use Rattle.record_memory.specs.declared.books.Setup.{Setup}
 use Rattle.record_memory.specs.declared.books.View.{View}
 use Rattle.record_memory.specs.declared.steps.Step.{Step}
 use Rattle.record_memory.specs.declared.books.Book.{Book}
 use Rattle.record_memory.specs.declared.books.Guard.{Guard}
 use Rattle.record_memory.specs.declared.books.Note.{Note}
+use Rattle.record_memory.specs.declared.books.Moves.{Moves}
 use Rattle.record_memory.specs.Memory.{Memory, memory, size}
 use Rattle.row_words.specs.Refs.{RefParts}
 use Rattle.record_rule.specs.Records.{Record}
@@ -142,14 +144,29 @@ module _ (setup : Setup) (books : List Book) (seats : List ℕ) (taken_out taken
 pub made_more : (setup : Setup) (c : ℕ) (steps : List Step) (step : Step) → StepFits setup c step → ((n : ℕ) (t : Step) → At steps n t → StepFits setup c t) → (n : ℕ) (t : Step) → At (steps ++ step ∷ []) n t → StepFits setup c t
 made_more setup c steps step finds = each_more (StepFits setup c) steps step finds
 
--- What a step leaves of the number of records drawn is no less than before, and no less than it found there
-pub record LeavesDrawn (before after : ℕ) (t : Step) : Type 0 where
-  pub grows : before ≤ after
-  pub found : FoundWithin after t
+-- What a step of caller c leaves of the number of records drawn is no less than before, and no less than it found there. Where the allocator is `Once`, its cursor is still the number of records that it drew, and it leaves the others' cursors
+pub record LeavesDrawn (setup : Setup) (before after : Memory) (c : ℕ) (moves moves' : Moves) (t : Step) : Type 0 where
+  pub grows : before.drawn ≤ after.drawn
+  pub found : FoundWithin after.drawn t
+  pub own : setup.allocator ≡ Once → get_or before.cursors c 0 ≡ moves.drawn → get_or after.cursors c 0 ≡ moves'.drawn
+  pub others : setup.allocator ≡ Once → (d : ℕ) → d ≢ c → get_or after.cursors d 0 ≡ get_or before.cursors d 0
 
--- as a step on another word does
-pub elsewhere : (before after : ℕ) (t : Step) → after ≡ before → ¬ (t.word ≡ Drawn) → LeavesDrawn before after t
-elsewhere before after t same other = record { grows = omega arith; found = λ e. absurd (other e) }
+-- the words that count the records drawn
+abbrev pub counters : Memory → ℕ × List ℕ
+counters m = (m.drawn, m.cursors)
+
+-- as a step does that draws no record and leaves the words that count them, and found in the shared one what is there
+pub leaves_drawn : {setup : Setup} {before after : Memory} {c : ℕ} {moves moves' : Moves} {t : Step} → counters after ≡ counters before → moves'.drawn ≡ moves.drawn → FoundWithin before.drawn t → LeavesDrawn setup before after c moves moves' t
+leaves_drawn {before = before} {after = after} {c = c} same calm within = let drawn : after.drawn ≡ before.drawn = ap (λ (p : ℕ × List ℕ). p.0) same in let cursors : after.cursors ≡ before.cursors = ap (λ (p : ℕ × List ℕ). p.1) same in record {
+  grows = omega arith;
+  found = λ e. let h = within e in omega arith;
+  own = λ _ was. ap (λ (l : List ℕ). get_or l c 0) cursors ∙ was ∙ sym calm;
+  others = λ _ d _. ap (λ (l : List ℕ). get_or l d 0) cursors;
+}
+
+-- or one on another word
+pub elsewhere : {setup : Setup} {before after : Memory} {c : ℕ} {moves moves' : Moves} (t : Step) → counters after ≡ counters before → moves'.drawn ≡ moves.drawn → ¬ (t.word ≡ Drawn) → LeavesDrawn setup before after c moves moves' t
+elsewhere t same calm other = leaves_drawn same calm (λ e. absurd (other e))
 
 -- a load may be made of any word
 pub load_on : (setup : Setup) (c : ℕ) (w : Word) → IsStepOn setup c w Load
@@ -202,6 +219,7 @@ module _ (shape : ShapeFacts) (cover : CoverFacts) (setup : Setup) where
     places = u.places;
     parts = u.parts;
     counts = u.counts;
+    cursors = u.cursors;
     retirements = u.retirements;
     start_made = u.start_made;
     made = u.made;
@@ -212,7 +230,7 @@ module _ (shape : ShapeFacts) (cover : CoverFacts) (setup : Setup) where
   -- The rule after a step of the pass in seat id, which knew v and then knows w
   pub stepped : (t : State (Unit {0}) View) (u : Rule shape cover setup t) (id : ℕ) (v w : View) → get_elem? t.views id ≡ some v → v.present ≡ true
       → (ws : List ℕ) → length ws ≡ size setup.callers setup.records → (records : List Record) (taken_out : List RefParts) (updates : List Update) → StartsWith taken_out u.taken_out → StartsWith updates u.updates → Steps setup taken_out updates v w
-      → (step : Step) → w.own.steps ≡ v.own.steps ++ step ∷ [] → LeavesDrawn (read t.words).drawn (read ws).drawn step → LeavesRetirements setup.first u.records records step
+      → (step : Step) → w.own.steps ≡ v.own.steps ++ step ∷ [] → LeavesDrawn setup (read t.words) (read ws) v.own.caller v.own.moves w.own.moves step → LeavesRetirements setup.first u.records records step
       → Places setup records (set u.books v.own.caller w.own) (read ws)
       → Parts shape cover setup (outline (read ws) records (set u.books v.own.caller w.own) taken_out updates) → CountsFit setup.first records (set u.books v.own.caller w.own)
       → Rule shape cover setup record { words = ws; homes = t.homes; views = set t.views id w }
@@ -228,6 +246,9 @@ module _ (shape : ShapeFacts) (cover : CoverFacts) (setup : Setup) where
     places = places;
     parts = parts;
     counts = counts;
+    cursors = λ once c b e. ⊎_elim
+        (λ q. ap (λ (z : ℕ). get_or (read ws).cursors z 0) q.0 ∙ drawn.own once (u.cursors once v.own.caller v.own (own_book setup u.books u.seats u.taken_out u.updates id v here (u.seated id v at)).0) ∙ ap (λ (z : Book). z.moves.drawn) q.1)
+        (λ q. drawn.others once c q.0 ∙ u.cursors once c b q.1) (at_set u.books v.own.caller c w.own b e);
     retirements = retirements_more setup.first u.records records u.books v.own.caller v.own w.own step (own_book setup u.books u.seats u.taken_out u.updates id v here (u.seated id v at)).0 steps retires u.retirements;
     start_made = each_set (λ c b. b.guard.start_step ≤ length b.steps) u.books v.own.caller w.own u.start_made (s.start_made (u.start_made v.own.caller v.own (own_book setup u.books u.seats u.taken_out u.updates id v here (u.seated id v at)).0));
     made = each_set (λ c b. (n : ℕ) (t : Step) → At b.steps n t → StepFits setup c t) u.books v.own.caller w.own u.made (s.made (u.made v.own.caller v.own (own_book setup u.books u.seats u.taken_out u.updates id v here (u.seated id v at)).0));
@@ -240,7 +261,7 @@ module _ (shape : ShapeFacts) (cover : CoverFacts) (setup : Setup) where
   -- the same after a step that changes nothing but words, records and the book of its caller, which answers no call
   pub rebuilt : (t : State (Unit {0}) View) (u : Rule shape cover setup t) (id : ℕ) (v : View) → get_elem? t.views id ≡ some v → v.present ≡ true
       → (ws : List ℕ) → length ws ≡ size setup.callers setup.records → (records : List Record) (own : Book) (step : Step) → StepFits setup v.own.caller step → own.caller ≡ v.own.caller → own.answered ≡ v.own.answered → own.guard ≡ v.own.guard → own.notes ≡ v.own.notes
-      → own.steps ≡ v.own.steps ++ step ∷ [] → LeavesDrawn (read t.words).drawn (read ws).drawn step → LeavesRetirements setup.first u.records records step
+      → own.steps ≡ v.own.steps ++ step ∷ [] → LeavesDrawn setup (read t.words) (read ws) v.own.caller v.own.moves own.moves step → LeavesRetirements setup.first u.records records step
       → Places setup records (set u.books v.own.caller own) (read ws)
       → Parts shape cover setup (outline (read ws) records (set u.books v.own.caller own) u.taken_out u.updates) → CountsFit setup.first records (set u.books v.own.caller own)
       → Rule shape cover setup record { words = ws; homes = t.homes; views = set t.views id (with_own v own) }

@@ -31,7 +31,7 @@ use Rattle.record_rule.proofs.Owned.{share_of}
 use Rattle.record_rule.specs.Counts.{drawn_as, retired_as, freed_as}
 use Rattle.record_rule.specs.Kinds.{retired_one}
 use Rattle.record_rule.proofs.Counts.{Balances, counts_moved}
-use Rattle.record_rule.proofs.Rebuilt.{elsewhere, rebuilt}
+use Rattle.record_rule.proofs.Rebuilt.{counters, elsewhere, rebuilt}
 use Rattle.record_rule.proofs.Retirements.{LeavesRetirements}
 use Rattle.record_rule.proofs.RetirementMoves.{in_stamp}
 use Rattle.record_rule.proofs.Quiet.{calm_after, outline_scheme}
@@ -134,7 +134,7 @@ module _ (shape : ShapeFacts) (cover : CoverFacts) (covering : CoverLaws cover) 
   -- so the rule stays
   kept : Rule shape cover setup record { words = words; homes = s.homes; views = set s.views id (retired v r h stamp) }
   kept = rebuilt shape cover setup s u id v at present words (length-set s.words (address setup.callers (Field i 2)) value ∙ u.wide) (set u.records (i - 1) new) own _ fits refl refl refl refl refl
-      (elsewhere m.drawn m'.drawn _ (ap (λ (x : Memory). x.drawn) put_is) (λ e. cc)) retires_it places
+      (elsewhere _ (ap counters put_is) refl (λ e. cc)) retires_it places
       (subst (Parts shape cover setup) outline_is record {
         taken = u.parts.taken;
         held = u.parts.held;

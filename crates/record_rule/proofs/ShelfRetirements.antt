@@ -1,6 +1,6 @@
 -- Records show as many retirements on a shelf as off it.
-use Rattle.std.proofs.Common.{◌≡◌, ℕ, zero, suc, ◌≤◌, List, [], ◌∷◌, sym, refl, ap, arith}
-use mathlib.Core.Option.{some, some-injective, some-ne-none}
+use Rattle.std.proofs.Common.{◌≡◌, ℕ, zero, suc, List, [], ◌∷◌, sym, refl, ap, arith}
+use mathlib.Core.Option.{some-injective, some-ne-none}
 use lib.ListN.{get_elem?}
 use Rattle.record_memory.specs.declared.books.Place.TheVariants.{Of}
 use Rattle.record_memory.specs.declared.books.Standing.TheVariants.{Free}

@@ -21,7 +21,7 @@ use Rattle.record_rule.specs.Recorded.{StepFits, FoundWithin}
 use Rattle.record_rule.specs.Links.{with_step, AreWhole}
 use Rattle.record_rule.proofs.Recents.{recent_more}
 use Rattle.record_rule.proofs.Counts.{counts_calm}
-use Rattle.record_rule.proofs.Rebuilt.{carries_own, own_book, rebuilt}
+use Rattle.record_rule.proofs.Rebuilt.{carries_own, own_book, leaves_drawn, rebuilt}
 use Rattle.record_rule.proofs.Quiet.{calm_after, outline_same, places_calm}
 use Rattle.record_rule.proofs.TakenMoves.{out_cells_fit}
 use Rattle.record_rule.proofs.Retirements.{MayLeave, leaving_calm, leaving_quiet, keeps_retired}
@@ -80,7 +80,7 @@ module _ (shape : ShapeFacts) (cover : CoverFacts) (setup : Setup) (s : State (U
         → Rule shape cover setup record { words = set s.words word (get_or s.words word 0); homes = s.homes; views = set s.views id (record v { own = with_step v.own v.setup.records t }) }
     kept_calm word t finds within leaving = let own : Book = with_step v.own v.setup.records t in
         subst (λ (ws : List ℕ). Rule shape cover setup record { words = ws; homes = s.homes; views = set s.views id (record v { own = own }) }) (sym (set-get_or s.words word 0))
-        (rebuilt shape cover setup s u id v at present s.words u.wide u.records own t finds refl refl refl refl refl record { grows = omega arith; found = within }
+        (rebuilt shape cover setup s u id v at present s.words u.wide u.records own t finds refl refl refl refl refl (leaves_drawn refl refl within)
         (keeps_retired setup.first u.records t (leaving_quiet t.kind leaving))
         (places_calm setup u.records u.books m v.own.caller v.own own book refl refl (calm_after v.own.drawing v.setup.records t (leaving_calm t.kind leaving)) u.places)
         (subst (Parts shape cover setup) (sym (outline_same m m u.taken_out u.updates refl refl u.books v.own.caller v.own own book record { guard = refl; notes = refl; roots = refl; locks = refl; answered = refl; offer = refl } u.records)) u.parts)

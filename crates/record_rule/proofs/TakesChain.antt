@@ -33,7 +33,7 @@ use Rattle.record_rule.proofs.Lists.{below_at, map_set_same}
 use Rattle.record_rule.proofs.Owned.{share_of}
 use Rattle.record_rule.proofs.Quiet.{calm_after}
 use Rattle.record_rule.proofs.Counts.{sum_set}
-use Rattle.record_rule.proofs.Rebuilt.{no_field, elsewhere, rebuilt}
+use Rattle.record_rule.proofs.Rebuilt.{no_field, counters, elsewhere, rebuilt}
 use Rattle.record_rule.proofs.Retirements.{retires_none}
 use Rattle.record_rule.proofs.ShelfRetirements.{off_shows}
 use Rattle.record_rule.proofs.Steps.{before, book, kept_calm}
@@ -195,7 +195,7 @@ module _ (shape : ShapeFacts) (cover : CoverFacts) (setup : Setup) (ok : IsSetup
     kept : Rule shape cover setup record { words = set s.words (4 + k) 0; homes = s.homes; views = set s.views id w }
     kept = let words' : List ℕ = set s.words (4 + k) 0 in let m' : Memory = memory setup.callers setup.records words' in let was : Outline = before shape cover setup s u in let mine = book shape cover setup s u id v at present in
         let put_is : m' ≡ put m (Shelf k) 0 = stores setup.callers setup.records s.words (Shelf k) 0 u.wide below in
-        rebuilt shape cover setup s u id v at present words' (length-set s.words (4 + k) 0 ∙ u.wide) after own t (no_field setup c t refl (inr (inl refl)) (λ i f e. cc)) refl refl refl refl refl (elsewhere m.drawn m'.drawn t (ap (λ (x : Memory). x.drawn) put_is) (λ e. cc))
+        rebuilt shape cover setup s u id v at present words' (length-set s.words (4 + k) 0 ∙ u.wide) after own t (no_field setup c t refl (inr (inl refl)) (λ i f e. cc)) refl refl refl refl refl (elsewhere t (ap counters put_is) refl (λ e. cc))
         (retires_none setup.first u.records after t refl (off_shows c k setup.first u.records))
         (subst (Places setup after (set u.books c own)) (sym put_is) (off_places setup c k below u.records u.books m v.own own u.places mine refl refl (calm_after v.own.drawing v.setup.records t tt)))
         (subst (Parts shape cover setup) (λ z. record {

@@ -172,7 +172,7 @@ module _ (shape : ShapeFacts) (cover : CoverFacts) (setup : Setup) (s : State (U
   -- so the rule stays
   kept : (word : ℕ) → Rule shape cover setup record { words = set s.words word (get_or s.words word 0); homes = s.homes; views = set s.views id (took_free v r has.share node.row) }
   kept word = subst (λ (ws : List ℕ). Rule shape cover setup record { words = ws; homes = s.homes; views = set s.views id (took_free v r has.share node.row) }) (sym (set-get_or s.words word 0))
-      (rebuilt shape cover setup s u id v at present s.words u.wide (set u.records i new) own _ (load_fits shape cover setup s u id v at present r.index 1 (get_or node.row 1 0) Free node there is) refl refl refl refl refl (elsewhere m.drawn m.drawn _ refl (λ e. cc)) retires_none_here
+      (rebuilt shape cover setup s u id v at present s.words u.wide (set u.records i new) own _ (load_fits shape cover setup s u id v at present r.index 1 (get_or node.row 1 0) Free node there is) refl refl refl refl refl (elsewhere _ refl refl (λ e. cc)) retires_none_here
       (renewed_places setup u.records u.books m c i v.own own node u.places (book shape cover setup s u id v at present) there is refl (ap (λ (x : Share). set v.own.mine i (Some x)) share_is)
       (calm_after v.own.drawing v.setup.records (field_load v r.index 1 (get_or node.row 1 0)) tt))
       (subst (Parts shape cover setup) outline_is record {

@@ -20,6 +20,7 @@ pub mod Retirements
 pub mod World
 pub mod Opening
 pub mod Kinds
+pub mod OwnDraws
 pub mod HandingOut
 pub mod Asides
 pub mod ChainRows

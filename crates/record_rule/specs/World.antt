@@ -47,6 +47,10 @@ IsLeftBy Once setup m i = (setup.roots ≤ i) × (slice_index_or m.cursors ((i -
 abbrev pub IsLeft : Setup → Memory → ℕ → Type 0
 IsLeft setup m i = IsLeftBy setup.allocator setup m i
 
+-- where the allocator is `Once`, each caller's cursor is the number of records that it drew
+abbrev pub CursorsFit : Setup → List ℕ → List Book → Type 0
+CursorsFit setup cursors books = setup.allocator ≡ Once → (c : ℕ) (b : Book) → At books c b → slice_index_or cursors c 0 ≡ b.moves.drawn
+
 -- 1 for a caller that added to the number of records drawn when none was left, which it does once
 abbrev pub overshoot_by : Drawing → ℕ
 overshoot_by Unsure = 0
@@ -151,6 +155,7 @@ pub record Rule (s : ShapeFacts) (c : CoverFacts) (setup : Setup) (t : State (Un
   pub parts : Parts s c setup (outline (memory setup.callers setup.records t.words) records books taken_out updates)
   -- the callers' moves of records are the records'
   pub counts : CountsFit setup.first records books
+  pub cursors : CursorsFit setup (memory setup.callers setup.records t.words).cursors books
   -- and each record was retired at each of its generations as often as it shows
   pub retirements : RetirementsFit setup.first records books
   -- no guard started at a step that is still to come

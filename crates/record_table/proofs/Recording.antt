@@ -15,6 +15,7 @@ use Rattle.record_memory.specs.Memory.{word_at}
 use Rattle.row_words.specs.Refs.{RefParts, LinkParts}
 use Rattle.record_rule.specs.Facts.{ShapeFacts, CoverFacts, Reach, clean}
 use Rattle.record_rule.specs.Kinds.{share_in, field_store, field_load, stored_as, stored, loaded, IsOverAs, IsOver, IsKnown, control_load, loaded_control, draw_step, drew, control_step, made_step}
+use Rattle.record_rule.specs.OwnDraws.{own_draw_step, drew_own}
 use Rattle.record_rule.specs.Freeing.{LoadedControl, LoadedBy}
 use Rattle.record_rule.specs.TakesFree.{LoadedFree}
 use Rattle.record_rule.specs.Placing.{placed_view}
@@ -222,6 +223,9 @@ adds_noted v kind x place n left w name e = adds_by kind x n left v w _ e record
 
 pub adds_draw : (v : View) (x : Word) (n : ℕ) (w : View) → x ≡ Drawn → w ≡ drew v n → (n + 1) % 2 ^ 64 ≡ n + 1 → Adds Add x n ((n + 1) % 2 ^ 64) v w
 adds_draw v x n w name e one = adds_by Add x n ((n + 1) % 2 ^ 64) v w _ e record { same = record { caller = refl; setup = refl; present = refl; others = refl }; step = draw_step v n; one = refl; kind_is = refl; word_is = sym name; found_is = refl; left_is = sym one; idle_is = refl }
+
+pub adds_own_draw : (v : View) (x : Word) (n k : ℕ) (w : View) → x ≡ Cursor v.own.caller → k ≡ n → w ≡ drew_own v n → Adds Store x k (n + 1) v w
+adds_own_draw v x n k w name found e = adds_by Store x k (n + 1) v w _ e record { same = record { caller = refl; setup = refl; present = refl; others = refl }; step = own_draw_step v n; one = refl; kind_is = refl; word_is = sym name; found_is = sym found; left_is = refl; idle_is = refl }
 
 module _ (c : CoverFacts) (v : View) (place : Word) (value found : ℕ) (w : View) where
   adds_if : (b : Bool) (updates : List Update) (taken_out : List RefParts) (own : Book) (k : ℕ) → own.caller ≡ v.own.caller → own.steps ≡ v.own.steps ++ own_store v k found value ∷ []

@@ -1,6 +1,6 @@
 // Steps on control words.
 ghost use Rattle.std.specs.Prelude.{◌≡◌, ℕ, ◌<◌, MatchResult};
-ghost use Rattle.set_model.specs.declared.names.AllocatorName.TheVariants.{Bump};
+ghost use Rattle.set_model.specs.declared.names.AllocatorName.TheVariants.{Bump, Once};
 ghost use Rattle.record_memory.specs.declared.books.Drawing.TheVariants.{Below};
 ghost use Rattle.record_memory.specs.declared.steps.StepKind.TheVariants.{Exchange};
 ghost use Rattle.record_memory.specs.declared.steps.Word.TheVariants.{Drawn};
@@ -8,10 +8,13 @@ ghost use Rattle.record_memory.specs.Memory.{address, controls, word_at};
 ghost use Rattle.record_rule.specs.ControlSteps.{MayStoreControl, StoredControl, MayExchangeControl};
 ghost use Rattle.record_rule.specs.Freeing.{LoadedBy};
 ghost use Rattle.record_rule.specs.Kinds.{ShowsBelow, drew, DrewNew, made_step, control_step};
+ghost use Rattle.record_rule.specs.OwnDraws.{ShowsDrawn, drew_own, DrewOwn};
+ghost use Rattle.record_rule.specs.World.{range};
 ghost use Rattle.record_table.specs.Handles.{setup_of, view, IsPassOf, IsSamePass};
 
 use crate::passes::Pass;
 use crate::table::Table;
+use record_memory::cursor;
 use record_rule::{Cover, Shape};
 use std::marker::Brand;
 
@@ -24,6 +27,7 @@ impl<S: Shape, R: Cover> Table<S, R> {
         ensures pass { IsSamePass pass.old pass.new }
         ensures step { LoadedBy R.facts (view pass.old) (word_at (view pass.old).setup.callers word) word result (view pass.new) }
         ensures below { ShowsBelow (view pass.old) word result }
+        ensures cursor { ShowsDrawn (view pass.old) word result }
     {
         self.load::<Brand, _>(pass, word as usize, &())
     }
@@ -53,6 +57,21 @@ impl<S: Shape, R: Cover> Table<S, R> {
         ensures new { DrewNew (view pass.old) result }
     {
         self.add::<Brand>(pass, word as usize, 1)
+    }
+
+    /// Stores `drawn` + 1 in the caller's own cursor. `Once` allows this to a caller that drew `drawn` records, fewer
+    /// than its range has. The next record of its range is the caller's from this step on.
+    pub fn store_cursor(&self, pass: &mut Pass<S, R>, drawn: u64)
+        requires pass { IsPassOf self.now pass.old }
+        requires once { (setup_of self.now).allocator ≡ Once }
+        requires drawn { drawn ≡ (view pass.old).own.moves.drawn }
+        requires left { drawn < range (setup_of self.now) }
+        ensures pass { IsSamePass pass.old pass.new }
+        ensures step { view pass.new ≡ drew_own (view pass.old) drawn }
+        ensures new { DrewOwn (view pass.old) drawn }
+    {
+        let word = cursor(self.setup.callers, pass.caller);
+        self.store::<Brand, _>(pass, word as usize, drawn + 1, &drawn);
     }
 
     /// Exchanges a control word from `expected` to `new`, where the reclaimer allows that: the epoch. It is refused

@@ -38,7 +38,7 @@ pub enum PrepareError {
 }
 
 impl<S: Shape, R: Cover> Table<S, R> {
-    ghost use Rattle.std.specs.Prelude.{◌≡◌, ◌∷◌, List, IfOk};
+    ghost use Rattle.std.specs.Prelude.{◌≡◌, ◌<◌, ◌∷◌, List, IfOk};
     ghost use Rattle.record_memory.specs.declared.books.Book.{Book};
     ghost use Rattle.record_rule.specs.Opening.{first_view};
     ghost use Rattle.record_rule.specs.Splits.{split_left, split_right};
@@ -48,6 +48,7 @@ impl<S: Shape, R: Cover> Table<S, R> {
     // Gives the first book that isn't the pass's own to a new pass, which is that caller's.
     fn split_pass(&self, pass: &mut Pass<S, R>, caller: u32) -> Pass<S, R>
         requires pass { IsPassOf self.now pass.old }
+        requires counted { caller < (setup_of self.now).callers }
         requires next { (b : Book) × (bs : List Book) × ((view pass.old).others ≡ b ∷ bs) × (b.caller ≡ caller) }
         ensures pass { IsPassOf self.now pass.new }
         ensures left { view pass.new ≡ split_left (view pass.old) }

@@ -1,5 +1,5 @@
 // A caller's pass, and how passes are split off and joined.
-ghost use Rattle.std.specs.Prelude.{◌≡◌, []};
+ghost use Rattle.std.specs.Prelude.{◌≡◌, ◌<◌, []};
 
 use atomic_table::{Join, Seat, Split};
 use record_memory::View;
@@ -17,6 +17,7 @@ pub struct Pass<S, R> {
     pub(crate) inside: Snapshot<bool>,
     pub(crate) marker: PhantomData<(S, R)>,
     pub ghost numbered: { seat.me.0.own.caller ≡ caller },
+    pub ghost counted: { seat.me.0.own.caller < seat.me.0.setup.callers },
     pub ghost at_home: { seat.me.1 ≡ [] },
 }
 

@@ -7,6 +7,9 @@ use Rattle.record_table.proofs.table.Table.split_all.Goals as goal
 pub split_pass-pass-requires-clause-pass : goal.split_pass-pass-requires-clause-pass
 split_pass-pass-requires-clause-pass g c = c.loop-caller.invariant.is
 
+pub split_pass-pass-requires-clause-counted : goal.split_pass-pass-requires-clause-counted
+split_pass-pass-requires-clause-counted g c = let t = c.args.self.now in let h = c.loop-caller-test.true in let e = ap (λ k. k.callers) t.setup_is in omega arith
+
 pub split_pass-pass-requires-clause-next : goal.split_pass-pass-requires-clause-next
 split_pass-pass-requires-clause-next g c = let t = c.args.self.now in let lt : c.loop-caller.caller < t.board.shared.key.callers = (let h = c.loop-caller-test.true in let e = ap (λ k. k.callers) t.setup_is in omega arith) in
     (_, _, more t.board.shared.key g.R.Cover.facts.first c.loop-caller.caller 0 _ c.loop-caller.invariant.rest lt, refl)
