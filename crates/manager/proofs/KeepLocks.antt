@@ -1,5 +1,6 @@
 -- The words that a caller has locked, after steps that lock none.
-use Rattle.std.proofs.Common.{◌≡◌, ℕ, List, Option, None, Some, Result, Ok, Err, refl, ap, ◌∙◌}
+use Rattle.std.proofs.Common.{◌≡◌, ℕ, List, [], map, All, Bool, Option, None, Some, Result, Ok, Err, refl, ap, ◌∙◌}
+use Rattle.std.proofs.lemmas.List.Elements.{All-map, All-weaker}
 use Rattle.std.specs.Prelude.{MatchResult}
 use Rattle.set_model.specs.declared.calls.Call.{Call}
 use Rattle.record_memory.specs.declared.steps.Step.{Step}
@@ -12,7 +13,12 @@ use Rattle.record_rule.specs.Links.{Origin, locks_after, ExchangedLink, Publishe
 use Rattle.record_rule.specs.Makes.{Makes}
 use Rattle.record_table.specs.declared.nodes.Found.{Found}
 use Rattle.record_table.specs.Nodes.{IsRefused}
-use Rattle.manager.specs.Callers.{KeepsLocks}
+use Rattle.record_memory.specs.declared.books.Book.{Book}
+use Rattle.record_table.specs.Closing.{own_book}
+use Rattle.record_table.specs.declared.passes.Pass.{Pass}
+use Rattle.manager.specs.declared.types.Caller.{Caller}
+use Rattle.manager.specs.Made.{pass_of, passes_of}
+use Rattle.manager.specs.Callers.{IsResting, KeepsLocks}
 
 module _ (v w : View) where
   -- steps that change its own records alone
@@ -46,3 +52,8 @@ module _ (v w : View) where
     pub unlink_locks : (gone : RefParts) (new : LinkParts) (r : Result RefParts Found) → MatchResult r (λ taken. (taken ≡ gone) × UnlinkedRecord s v o 3 gone new w) (λ found. IsRefused v o (clean gone) found.link w) → KeepsLocks v w
     unlink_locks gone new (Ok taken) e = ap (λ (x : View). x.own.locks) e.1.view
     unlink_locks gone new (Err found) e = refused_locks (clean gone) found.link e
+
+-- callers that rest have none locked
+pub none_locked : {S R L : Type 0} (is_local : L → Bool → View → View → Type 0) (callers : List (Caller S R L)) → All (IsResting is_local) callers → All (λ (b : Book). b.locks ≡ []) (map own_book (passes_of callers))
+none_locked {S} {R} {L} is_local callers rest = All-map (λ (b : Book). b.locks ≡ []) own_book (passes_of callers) (All-map (λ (p : Pass S R). (own_book p).locks ≡ []) pass_of callers
+    (All-weaker (IsResting is_local) (λ (c : Caller S R L). (own_book c.pass).locks ≡ []) (λ c r. r.unlocked) callers rest))

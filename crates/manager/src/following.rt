@@ -7,7 +7,7 @@ ghost use Rattle.reclaim_api.specs.Following.{HasFollowed, FollowsByLoad};
 ghost use Rattle.reclaim_api.specs.Frames.{LeavesRecords};
 ghost use Rattle.reclaim_api.specs.Holds.{IsElsewhere, KeepsElse};
 ghost use Rattle.record_pieces.specs.Events.{followed};
-ghost use Rattle.manager.specs.Callers.{IsWorking, AnswersNone, KeepsOwn};
+ghost use Rattle.manager.specs.Callers.{IsWorking, AnswersNone, KeepsOwn, KeepsLocks};
 ghost use Rattle.manager.specs.Guards.{IsAtWork, Did};
 
 use crate::types::{Caller, Guard};
@@ -62,6 +62,7 @@ impl<'a, S: Shape, R: Follows, A: Allocator, P: Pool> Guard<'a, S, R, A, P> {
         ensures keeps { KeepsElse place self.old.caller.now.pass self.new.caller.now.pass }
         ensures answers { AnswersNone (view self.old.caller.now.pass) (view self.new.caller.now.pass) }
         ensures owns { KeepsOwn (view self.old.caller.now.pass) (view self.new.caller.now.pass) }
+        ensures locks { KeepsLocks (view self.old.caller.now.pass) (view self.new.caller.now.pass) }
         ensures did { Did self.old (followed place from field result (view self.new.caller.now.pass).own.updates_seen) self.new }
     {
         reach_frozen(&self.manager.table, self.caller, place, from, field)

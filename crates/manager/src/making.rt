@@ -1,5 +1,5 @@
 // Making a manager with its callers, and closing it.
-ghost use Rattle.std.specs.Prelude.{◌≡◌, ◌↔◌, ◌<◌, ℕ, Err, IfOk, All, map, false};
+ghost use Rattle.std.specs.Prelude.{◌≡◌, ◌↔◌, ◌<◌, [], ℕ, Err, IfOk, All, map, false};
 ghost use Rattle.record_table.specs.Handles.{setup_of, view, is_inside, IsPassOf};
 ghost use Rattle.record_table.specs.Made.{IsFresh, AreFreshPasses, setup_with, AreBadRecords, AreBadCallers};
 ghost use Rattle.record_table.specs.Closing.{closed_setup, closed_books, own_book, AreAllPasses, IsClosedBy, BeginsHistory};
@@ -99,7 +99,8 @@ impl<S: Shape, R: Scheme, A: Allocator, P: Pool> Manager<S, R, A, P> {
 
     /// Closes the table. `callers` has every caller of this manager in order of number. Over all callers and
     /// shelves, as many records were freed as were reused, are free and are spent, and as many are in limbo as
-    /// were retired and not freed. The front of each caller begins the table's one history.
+    /// were retired and not freed. The front of each caller begins the table's one history. Where no caller is
+    /// inside an operation, no link is locked.
     pub fn close(self, mut callers: Vec<Caller<S, R>>) -> Closed
         requires { AreAllPasses self.table (passes_of callers.items) }
         ensures setup { closed_setup result ≡ setup_of self.table }
@@ -107,6 +108,7 @@ impl<S: Shape, R: Scheme, A: Allocator, P: Pool> Manager<S, R, A, P> {
         ensures fronts { All (BeginsHistory result) (passes_of callers.items) }
         ensures fits { IsClosedBy S.facts R.facts result }
         ensures moves { AreAddedUp result }
+        ensures unlocked { All (IsResting R.is_local) callers.items → All (λ book. book.locks ≡ []) (closed_books result) }
     {
         let Manager { table, marker: _ } = self;
         callers.reverse();

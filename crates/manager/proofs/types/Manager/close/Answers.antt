@@ -1,7 +1,8 @@
-use Rattle.std.proofs.Common.{◌≡◌, sym, subst, arith, ap, ◌∙◌, Some, All}
+use Rattle.std.proofs.Common.{◌≡◌, [], sym, subst, arith, ap, ◌∙◌, Some, All}
 use Rattle.std.proofs.lemmas.List.{length-map}
 use Rattle.std.proofs.lemmas.List.Elements.{All-pop, All-same}
 use mathlib.Core.List.{reverse}
+use Rattle.record_memory.specs.declared.books.Book.{Book}
 use Rattle.record_memory.specs.declared.books.View.{View}
 use Rattle.record_rule.specs.World.{StartsWith}
 use Rattle.record_table.specs.Handles.{view}
@@ -9,6 +10,7 @@ use Rattle.record_table.specs.Closing.{IsWholePassOf}
 use Rattle.record_table.proofs.Closings.{All-reverse, first_all, more_all, last_all, first_heard, more_heard, all_heard}
 use Rattle.manager.specs.Made.{pass_of, passes_of}
 use Rattle.manager.proofs.Seats.{passes_reversed, popped_passes, no_callers}
+use Rattle.manager.proofs.KeepLocks.{none_locked}
 use Rattle.manager.proofs.Sums.{moves_add_up}
 use Rattle.manager.proofs.types.Manager.close.Goals as goal
 
@@ -49,3 +51,6 @@ returns-clause-fronts g c = subst (λ (v : View). All (λ p. StartsWith v.front 
 
 pub returns-clause-moves : goal.returns-clause-moves
 returns-clause-moves g c = let f = c.close_last.ensures.fits in record { records = f.records; placed = f.placed; sums = moves_add_up _ f.records _ _ f.placed f.moved }
+
+pub returns-clause-unlocked : goal.returns-clause-unlocked
+returns-clause-unlocked g c rest = All-same (λ (b : Book). b.locks ≡ []) _ _ (returns-clause-books g c) (none_locked g.R.Scheme.is_local c.args.callers.items rest)
