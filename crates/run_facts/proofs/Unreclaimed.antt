@@ -124,11 +124,12 @@ unreclaimed {s = s} {closed = closed} run =
     let free : sum_by (had is_free) (closed_books closed) ≡ 0 = omega (arith, sums, freed) in
     let spent : sum_by (had is_spent) (closed_books closed) ≡ 0 = omega (arith, sums, freed) in
     let shelved : on_shelves closed ≡ 0 = omega (arith, sums, freed, on_shelves_are closed run.moves.records (closed_books closed) run.moves.placed) in
-    let none : run.totals.free ≡ 0 = run.totals_are.free ∙ ap shown free in
+    let own : run.totals.free ≡ 0 = run.totals_are.free ∙ ap shown free in
+    let none : run.totals.free + on_shelves closed ≡ 0 = omega (arith, own, shelved) in
     let are = run.counts_are in
     record {
       reused = ap (λ (n : Counts). n.reused) are ∙ run.totals_are.reused ∙ ap shown reused;
       freed = ap (λ (n : Counts). n.freed) are ∙ run.totals_are.freed ∙ ap shown freed;
-      free = ap (λ (n : Counts). n.free) are ∙ ap shown (omega (arith, none, shelved));
+      free = ap (λ (n : Counts). n.free) are ∙ ap shown none;
       spent = ap (λ (n : Counts). n.spent) are ∙ run.totals_are.spent ∙ ap shown spent;
     }
