@@ -6,6 +6,7 @@ ghost use Rattle.std.specs.Prelude.{◌≡◌};
 ghost use Rattle.record_table.specs.Handles.{setup_of, IsPassOf, IsSamePass};
 ghost use Rattle.set_model.specs.declared.names.AllocatorName.TheVariants.{Bump as BumpName};
 
+use alloc_bump::Bump;
 use record_table::PrepareError;
 use row_words::Generation;
 use std::alloc::Global;
@@ -20,7 +21,7 @@ fn draw_all(table: &ListTable, pass: &mut ListPass)
     ensures pass { IsSamePass pass.old pass.new }
 {
     'records: for _ in 0..table.records() {
-        if draw_aside(table, pass, None).is_err() {
+        if draw_aside::<Bump>(table, pass, None).is_err() {
             return;
         }
     }
