@@ -22,7 +22,8 @@ use Rattle.set_api.specs.Answers.{of_insertion}
 use Rattle.set_api.specs.Drawing.{TakesSpareFirst}
 use Rattle.michael_hash.specs.Pieces.{MakesPiece}
 use Rattle.record_pieces.proofs.Stock.{OnlyAdds, both_keep, stock_then, keeps_one, keeps_all, parts, adds_all, none_spare}
-use Rattle.michael_list.proofs.Stock.{DrewOne, GaveBack, Leaves, kept_gave, then_drew, drew_then, then_gave, gave_then, inserts_leave, removes_keep, searches_keep}
+use Rattle.list_calls.proofs.Stock.{DrewOne, GaveBack, Leaves, kept_gave, then_drew, drew_then, then_gave, gave_then}
+use Rattle.michael_list.proofs.Stock.{inserts_leave, removes_keep, searches_keep}
 
 -- some step of the caller's found all these records drawn
 abbrev pub SawAllDrawn : ℕ → Book → Type 0

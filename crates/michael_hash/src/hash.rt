@@ -13,7 +13,7 @@ ghost use Rattle.manager.specs.Made.{passes_of};
 ghost use Rattle.set_calls.specs.Answers.{InsertTells, RemoveTells, SearchTells};
 ghost use Rattle.set_calls.specs.Spares.{GivesBack};
 ghost use Rattle.michael_list.specs.Pieces.{Inserts, Removes, Searches};
-ghost use Rattle.michael_list.specs.Knowing.{IsHome};
+ghost use Rattle.list_calls.specs.Standing.{IsHome};
 ghost use Rattle.set_api.specs.Callers.{AreFreshCallers};
 ghost use Rattle.michael_hash.specs.Buckets.{bucket_of};
 ghost use Rattle.michael_hash.specs.Callers.{IsWholeCallerOf};

@@ -1,5 +1,5 @@
 -- No call of the list leaves a record in its caller's hand.
-use Rattle.std.proofs.Common.{ℕ, [], ◌∷◌, List, Bool, Option, Some, None, refl}
+use Rattle.std.proofs.Common.{ℕ, [], ◌∷◌, List, Bool, Option, refl}
 use Rattle.set_model.specs.declared.calls.InsertAnswer.{InsertAnswer}
 use Rattle.set_model.specs.declared.calls.LookAnswer.{LookAnswer}
 use Rattle.row_words.specs.Refs.{RefParts, LinkParts}
@@ -8,14 +8,11 @@ use Rattle.record_table.specs.declared.nodes.Node.{Node}
 use Rattle.reclaim_api.specs.declared.holding.Holding.TheVariants.{Held as Holds}
 use Rattle.record_pieces.specs.Events.{Event, hopped}
 use Rattle.record_pieces.proofs.Hands.{Hands, hands_both, hands_beside}
+use Rattle.list_calls.proofs.Hands.{Balances, own_from, record_hands, back_hands}
 use Rattle.michael_list.specs.declared.spots.Spot.{Spot}
 use Rattle.michael_list.specs.declared.spots.Landing.{Landing}
 use Rattle.michael_list.specs.Walks.{TakesOut, takes_out, is_refused, Looks, passes, finds, misses, clears, is_late, Hops, ends, meets_mark, moves, reaches, Walks, starts, goes_on, stays, restarts, Finds, found, needs_more, loads}
-use Rattle.michael_list.specs.Pieces.{HasRecord, Insertings, Inserts, Removings, Removes, Searches, back}
-
--- as many come into the hand as leave it
-abbrev Balances : List Event → Type 0
-Balances es = Hands 0 es 0
+use Rattle.michael_list.specs.Pieces.{Insertings, Inserts, Removings, Removes, Searches}
 
 -- a record that is taken out is retired
 out_balances : {before : Node} {gone : Held} {link : LinkParts} {b : Bool} {es : List Event} → TakesOut before gone link b es → Balances es
@@ -47,21 +44,6 @@ walks_balance (restarts walk hop) = hands_both (walks_balance walk) (hops_balanc
 finds_balance : {key root hops : ℕ} {spot : Option Spot} {shown : Option ℕ} {es : List Event} → Finds key root hops spot shown es → Balances es
 finds_balance (found walk hop) = hands_both (walks_balance walk) (hops_balance hop)
 finds_balance (needs_more walk) = walks_balance walk
-
--- the own record that an insertion has from its tries
-abbrev own_from : Option RefParts → ℕ
-own_from None = 0
-own_from (Some own) = 1
-
--- the try has one
-record_hands : {own : RefParts} {hand : Option RefParts} {es : List Event} → HasRecord own hand es → Hands (own_from hand) es 1
-record_hands HasRecord.gets = record { sums = refl }
-record_hands HasRecord.has = record { sums = refl }
-
--- one that is left over goes back
-back_hands : (hand : Option RefParts) → Hands (own_from hand) (back hand) 0
-back_hands None = record { sums = refl }
-back_hands (Some own) = record { sums = refl }
 
 -- after tries that failed it has that one alone
 insertings_hands : {root key hops : ℕ} {hand : Option RefParts} {es : List Event} → Insertings root key hops hand es → Hands 0 es (own_from hand)

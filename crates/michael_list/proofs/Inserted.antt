@@ -1,43 +1,15 @@
 -- What the steps of an insertion leave.
-use Rattle.std.proofs.Common.{◌≡◌, ◌≤◌, ◌+◌, ℕ, List, [], ◌∷◌, ◌++◌, append_assoc, Option, Some, None, Result, Ok, Err, MatchResult, true, false, sym, ◌∙◌, subst, arith}
+use Rattle.std.proofs.Common.{◌≡◌, ◌≤◌, ◌+◌, ℕ, List, [], ◌∷◌, ◌++◌, append_assoc, Option, Some, None, true, false, sym, ◌∙◌, subst, arith}
 use Rattle.set_model.specs.declared.calls.Call.TheVariants.{Insert}
 use Rattle.set_model.specs.declared.calls.InsertAnswer.TheVariants.{Done, Full, Again}
 use Rattle.row_words.specs.Refs.{RefParts, LinkParts}
-use Rattle.record_table.specs.declared.passes.Pass.{Pass}
 use Rattle.record_table.specs.declared.nodes.Held.{Held}
 use Rattle.record_table.specs.declared.nodes.Node.{Node}
-use Rattle.record_table.specs.declared.nodes.Node.TheVariants.{At}
-use Rattle.record_table.specs.Handles.{view}
-use Rattle.alloc_api.specs.declared.NoRecord.{NoRecord}
-use Rattle.reclaim_api.specs.Holds.{KeepsHeld}
-use Rattle.reclaim_api.specs.declared.scheme.Scheme.{Ghosts as OfScheme}
-use Rattle.alloc_api.specs.declared.Allocator.{Ghosts as OfAllocator}
-use Rattle.pool.specs.declared.Pool.{Ghosts as OfPool}
-use Rattle.record_pieces.specs.Events.{Event, took, refused, placed}
-use Rattle.manager.specs.declared.types.Guard.{Guard}
-use Rattle.manager.specs.Guards.{Did, DidAll}
-use Rattle.set_calls.proofs.Going.{did_one}
+use Rattle.record_pieces.specs.Events.{Event, refused, placed}
 use Rattle.michael_list.specs.declared.spots.Spot.TheVariants.{Present, Absent}
 use Rattle.michael_list.specs.Walks.{Finds}
-use Rattle.michael_list.specs.Pieces.{HasRecord, gets, has, back, links, Insertings, more, Inserts, adds, has_it, is_full, again}
-use Rattle.michael_list.specs.Knowing.{IsBeyond}
-use Rattle.michael_list.proofs.Standing.{stands_held}
-
--- a record that the call has from an earlier try
-pub has_own : (own : RefParts) (hand : Option RefParts) → hand ≡ Some own → HasRecord own hand []
-has_own own hand is = subst (λ (h : Option RefParts). HasRecord own h []) (sym is) has
-
-module _ {S R L A P : Type 0} {r : OfScheme R L} {a : OfAllocator A} {p : OfPool P} where
-  -- or a fresh one, or none
-  pub took_one : (f h : Guard S R A P L r a p) (hand : Option RefParts) (got : Result RefParts NoRecord) → hand ≡ None → MatchResult got (λ own. Did f (took own) h) (λ none. Did f (refused none.found) h)
-      → MatchResult got (λ own. (es : List Event) × HasRecord own hand es × DidAll f es h) (λ none. (hand ≡ None) × Did f (refused none.found) h)
-  took_one f h hand (Ok own) is did = (took own ∷ [], subst (λ (k : Option RefParts). HasRecord own k (took own ∷ [])) (sym is) gets, did_one f h (took own) did)
-  took_one f h hand (Err none) is did = (is, did)
-
--- the next record has a greater key still, where all is kept
-pub beyond_held : {S R : Type 0} (p q : Pass S R) → (view q).setup ≡ (view p).setup → (root : ℕ) → KeepsHeld p q → (key : ℕ) (next : Option Held) → IsBeyond p root key next → IsBeyond q root key next
-beyond_held p q setup root keeps key None beyond = tt
-beyond_held p q setup root keeps key (Some at) beyond = let s = stands_held p q setup root keeps (At at) beyond.0 in (s.0, (let e = s.1 in let b = beyond.1 in omega arith))
+use Rattle.list_calls.specs.Records.{back, HasRecord}
+use Rattle.michael_list.specs.Pieces.{links, Insertings, more, Inserts, adds, has_it, is_full, again}
 
 -- what a try did stands behind the tries before it
 behind_all : (ds fs gs hs : List Event) → ds ++ fs ++ gs ++ hs ≡ ds ++ (fs ++ (gs ++ hs))

@@ -1,8 +1,5 @@
-pub mod Standing
 mod Reached
 mod Loaded
-mod Filling
-mod Homes
 mod Looking
 mod Steps
 pub mod Ends

@@ -4,10 +4,10 @@ use Rattle.std.proofs.lemmas.Bool.{eq-eqb}
 use Rattle.set_model.specs.Keys.{contains}
 use Rattle.set_model.specs.Histories.{keys_of}
 use Rattle.row_words.specs.Refs.{LinkParts}
-use Rattle.row_words.specs.Packing.{link_in, key_in, packed_link, IsLink}
+use Rattle.row_words.specs.Packing.{link_in, packed_link, IsLink}
 use Rattle.row_words.proofs.Packed.{link_in-packed_link}
 use Rattle.record_rule.specs.Facts.{At as Stands, CoverFacts, mark_bit, HasMark, link_at, key_at}
-use Rattle.record_rule.specs.Links.{from_place, note_in, LoadedKey, LoadedLink}
+use Rattle.record_rule.specs.Links.{from_place, note_in, LoadedLink}
 use Rattle.list_facts.specs.Michael.{michael}
 use Rattle.list_facts.specs.Steps.{list_settled, marked_with}
 use Rattle.list_facts.proofs.Nodes.{noted_key}
@@ -22,12 +22,7 @@ use Rattle.set_calls.specs.Knowing.{of_michael, HasSeenKey}
 use Rattle.set_calls.proofs.Seen.{seen_by_load}
 use Rattle.michael_list.specs.Walks.{unmarked}
 use Rattle.manager.specs.Callers.{AnswersNone}
-use Rattle.michael_list.specs.Knowing.{rank, StandsAt}
-use Rattle.michael_list.proofs.Standing.{key_known}
-
--- the key that was loaded of a record is that by which it stands
-pub rank_loaded : {S R : Type 0} (p q : Pass S R) (at : Held) (n : ℕ) → LoadedKey (view p) at.place at.target n (view q) → rank p (At at) ≡ key_in n + 1
-rank_loaded p q at n told = ap (λ k. k + 1) (key_known (note_in (view p).own.notes at.place) n told.known)
+use Rattle.list_calls.specs.Standing.{rank, StandsAt}
 
 module _ {S R : Type 0} (c : CoverFacts) (p q : Pass S R) (root : ℕ) (at : Held) (first : Bool) (n : ℕ) (stands : StandsAt p root (At at)) (told : LoadedLink michael c (view p) (from_place at.place at.target) 3 first n (view q)) where
   abbrev link : LinkParts

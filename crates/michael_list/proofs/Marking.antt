@@ -17,7 +17,8 @@ use Rattle.record_table.specs.Handles.{view}
 use Rattle.record_table.specs.Nodes.{origin_held}
 use Rattle.reclaim_api.proofs.Noting.{exchange_notes}
 use Rattle.set_calls.specs.Answers.{Decided}
-use Rattle.michael_list.specs.Knowing.{rank, StandsAt, IsMarkNoted}
+use Rattle.list_calls.specs.Standing.{rank, StandsAt}
+use Rattle.michael_list.specs.Knowing.{IsMarkNoted}
 
 -- a removal is decided by the step that it names
 pub removal_decided : (v w : View) (o : Origin) (key : ℕ) (old new : LinkParts) → ExchangedLink michael v o 3 old new (Some (Remove key)) w → Decided (Remove key) v w

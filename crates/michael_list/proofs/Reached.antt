@@ -17,12 +17,13 @@ use Rattle.record_table.specs.declared.nodes.Node.{Node}
 use Rattle.record_table.specs.declared.nodes.Node.TheVariants.{Root, At}
 use Rattle.record_table.specs.Handles.{view}
 use Rattle.record_table.specs.Nodes.{origin, HoldsThere}
-use Rattle.reclaim_api.specs.Holds.{KeepsElse, IsElsewhere, HasSeen}
+use Rattle.reclaim_api.specs.Holds.{KeepsHeld, KeepsElse, IsElsewhere, HasSeen}
 use Rattle.manager.specs.Callers.{AnswersNone}
 use Rattle.set_calls.specs.Knowing.{of_michael, HasSeenKey}
 use Rattle.set_calls.proofs.Seen.{seen_by_hold}
-use Rattle.michael_list.specs.Knowing.{rank, StandsAt, StandsBefore, HasReachedNext}
-use Rattle.michael_list.proofs.Standing.{key_known, Covers, stands_still}
+use Rattle.list_calls.specs.Standing.{rank, StandsAt, StandsBefore}
+use Rattle.list_calls.proofs.Standing.{key_known, Covers, stands_still, stands_held, before_held, seen_held}
+use Rattle.michael_list.specs.Knowing.{HasReachedNext}
 
 -- where a node stands by what is known of it is where its body says
 pub home_of : (n : Near) (setup : Setup) (body : List ℕ) → FitsBody michael n body → IsKeyed n → home_at setup (root_at michael n) body ≡ home_near setup n
@@ -131,3 +132,15 @@ module _ {S R : Type 0} (p q : Pass S R) (place root key : ℕ) (before : Node) 
           rises = let e = still.1 in let r = rank_is in let b = behind.1 in let k = key_is in omega arith;
           gap = λ above. absent_between (subst (λ (b : Option (List ℕ)). MatchOption (rank_of b) (Unit {0}) (λ r. key + 1 < r)) (sym body_found.1) (let k = key_is in omega (arith, above)));
         }
+
+-- what was reached is the next record still, where all is kept
+pub reached_still : {S R : Type 0} (p q : Pass S R) → (view q).setup ≡ (view p).setup → (root : ℕ) → KeepsHeld p q → AnswersNone (view p) (view q) → (key : ℕ) (before : Node) (at : Held) {seen : ℕ} → HasReachedNext p root key before at seen → HasReachedNext q root key before at seen
+reached_still p q setup root keeps none key before at h =
+    let a = stands_held p q setup root keeps before h.before_it.stands in let b = stands_held p q setup root keeps (At at) h.stands in record {
+      before_it = before_held p q setup root keeps key before h.before_it;
+      else = h.else;
+      stands = b.0;
+      rises = let e = a.1 in let f = b.1 in let r = h.rises in omega arith;
+      reached_at = keeps.reached at.place tt ∙ h.reached_at;
+      gap = λ above. seen_held p q setup root keeps none key false (h.gap (let f = b.1 in omega (arith, above)));
+    }

@@ -9,7 +9,8 @@ use Rattle.michael_list.specs.declared.spots.Spot.{Spot}
 use Rattle.michael_list.specs.declared.spots.Landing.{Landing}
 use Rattle.michael_list.specs.declared.spots.Landing.TheVariants.{On, Stays, Restarts, Found}
 use Rattle.michael_list.specs.Walks.{Hops, Walks, goes_on, stays, restarts}
-use Rattle.michael_list.specs.Knowing.{rank, StandsBefore, IsLanding, IsNext, IsSpot, shown_at, shown_by}
+use Rattle.list_calls.specs.Standing.{rank, StandsBefore}
+use Rattle.michael_list.specs.Knowing.{IsLanding, IsNext, IsSpot, shown_at, shown_by}
 
 module _ {S R : Type 0} (q : Pass S R) (root key : ℕ) (has : root < (view q).setup.roots) where
   -- a walk starts at the root

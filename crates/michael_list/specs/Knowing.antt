@@ -1,28 +1,24 @@
 -- What the walker of a list knows of the node at which it is, and of what it reached from there.
-use Rattle.std.specs.Prelude.{◌≡◌, ℕ, ◌+◌, ◌%◌, ◌<◌, true, false, Option, Some, None, Result, Ok, Err}
-use Rattle.record_memory.specs.declared.books.Setup.{Setup}
+use Rattle.std.specs.Prelude.{◌≡◌, ℕ, ◌+◌, ◌<◌, true, false, Option, Some, None, Result, Ok, Err}
 use Rattle.record_memory.specs.declared.books.View.{View}
 use Rattle.row_words.specs.Refs.{LinkParts}
 use Rattle.row_words.specs.Packing.{packed_link, IsLink}
-use Rattle.record_rule.specs.Facts.{At as Stands, Near}
-use Rattle.record_rule.specs.Links.{note_in, near_of}
+use Rattle.record_rule.specs.Facts.{At as Stands}
+use Rattle.record_rule.specs.Links.{note_in}
 use Rattle.record_table.specs.declared.passes.Pass.{Pass}
 use Rattle.record_table.specs.declared.nodes.Held.{Held}
 use Rattle.record_table.specs.declared.nodes.Node.{Node}
 use Rattle.record_table.specs.declared.nodes.Node.TheVariants.{Root, At}
 use Rattle.record_table.specs.Handles.{view}
-use Rattle.record_table.specs.Nodes.{origin, HoldsNode}
+use Rattle.record_table.specs.Nodes.{origin}
 use Rattle.reclaim_api.specs.Holds.{IsElsewhere}
-use Rattle.list_facts.specs.Steps.{rank_near, home_near, marked_with, IsKeyed}
+use Rattle.list_facts.specs.Steps.{marked_with}
 use Rattle.set_calls.specs.Knowing.{HasSeenKey}
+use Rattle.list_calls.specs.Standing.{rank, StandsAt, StandsBefore, IsBeyond}
 use Rattle.michael_list.specs.declared.spots.Spot.{Spot}
 use Rattle.michael_list.specs.declared.spots.Spot.TheVariants.{Present, Absent}
 use Rattle.michael_list.specs.declared.spots.Landing.{Landing}
 use Rattle.michael_list.specs.declared.spots.Landing.TheVariants.{On, Stays, Restarts, Found}
-
--- the list of this root has the key, if any list has
-abbrev pub IsHome : Setup → ℕ → ℕ → Type 0
-IsHome setup root key = (root < setup.roots) × (key % setup.roots ≡ root)
 
 -- from which node the next hop goes, or where the walk ended
 abbrev pub IsNext : ℕ → Node → Landing → Result Node Spot → Type 0
@@ -52,28 +48,9 @@ shown_by v Restarts = None
 shown_by v (Found spot) = Some (shown_at v spot)
 
 module _ {S R : Type 0} where
-  -- what the pass knows of the node
-  abbrev pub near : Pass S R → Node → Near
-  near p node = near_of (view p) (origin node)
-
-  -- its rank in its list: 0 for the root, and else the successor of its key
-  abbrev pub rank : Pass S R → Node → ℕ
-  rank p node = rank_near (near p node)
-
-  -- it stands at the root, or at a record of its list that it holds, whose key it knows
-  pub record StandsAt (p : Pass S R) (root : ℕ) (node : Node) : Type 0 where
-    pub there : HoldsNode p node
-    pub keyed : IsKeyed (near p node)
-    pub home : home_near (view p).setup (near p node) ≡ root
-
   -- the link of what it holds there is known to be this one with a mark, which no step ends
   abbrev pub IsMarkNoted : Pass S R → Held → LinkParts → Type 0
   IsMarkNoted p at link = (generation : ℕ) × Stands (note_in (view p).own.notes at.place).words 0 (Some (packed_link generation (marked_with link)))
-
-  -- it stands before the key
-  pub record StandsBefore (p : Pass S R) (root key : ℕ) (before : Node) : Type 0 where
-    pub stands : StandsAt p root before
-    pub below : rank p before < key + 1
 
   -- and has reached the next record of the list, after so many updates; where that has a greater key, this one was seen to be absent then
   pub record HasReachedNext (p : Pass S R) (root key : ℕ) (before : Node) (at : Held) (seen : ℕ) : Type 0 where
@@ -83,11 +60,6 @@ module _ {S R : Type 0} where
     pub rises : rank p before < rank p (At at)
     pub reached_at : (note_in (view p).own.notes at.place).reached_at ≡ seen
     pub gap : key + 1 < rank p (At at) → HasSeenKey p key false seen
-
-  -- the next record, where there is one, has a greater key
-  abbrev pub IsBeyond : Pass S R → ℕ → ℕ → Option Held → Type 0
-  IsBeyond p root key None = Unit {0}
-  IsBeyond p root key (Some next) = StandsAt p root (At next) × (key + 1 < rank p (At next))
 
   -- where a walk for the key ended, and what it saw of the key there
   abbrev pub IsSpot : Pass S R → ℕ → ℕ → Spot → Type 0

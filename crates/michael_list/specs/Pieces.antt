@@ -10,25 +10,11 @@ use Rattle.row_words.specs.Packing.{packed_ref}
 use Rattle.record_table.specs.declared.nodes.Held.{Held}
 use Rattle.record_table.specs.declared.nodes.Node.{Node}
 use Rattle.record_table.specs.declared.nodes.Node.TheVariants.{At}
-use Rattle.record_pieces.specs.Events.{Event, exchanged, published, took, refused, stored_own, gave_back, placed}
+use Rattle.record_pieces.specs.Events.{Event, exchanged, published, refused, stored_own, placed}
 use Rattle.list_facts.specs.Steps.{marked_with}
 use Rattle.michael_list.specs.declared.spots.Spot.TheVariants.{Present, Absent}
+use Rattle.list_calls.specs.Records.{target_of, back, HasRecord}
 use Rattle.michael_list.specs.Walks.{TakesOut, Finds}
-
--- the reference of a record that may be missing
-abbrev pub target_of : Option Held → Option RefParts
-target_of None = None
-target_of (Some at) = Some at.target
-
--- an own record that is left over goes back
-abbrev pub back : Option RefParts → List Event
-back None = []
-back (Some own) = gave_back own ∷ []
-
--- the first try that finds the key absent gets a record, and each later one has it
-pub data HasRecord (own : RefParts) : Option RefParts → List Event → Type 0 where
-  gets : HasRecord own None (took own ∷ [])
-  has : HasRecord own (Some own) []
 
 -- the record is filled and linked where the walk ended; or the node's link was another than the walk found
 abbrev pub links : ℕ → Node → Option Held → RefParts → Option LinkParts → List Event

@@ -1,7 +1,6 @@
 -- What one try of an insertion leaves.
-use Rattle.std.specs.Prelude.{ℕ, ◌<◌, List, Option, Some, MatchOption}
+use Rattle.std.specs.Prelude.{ℕ, ◌<◌, List, Some}
 use Rattle.record_memory.specs.declared.books.View.{View}
-use Rattle.row_words.specs.Refs.{RefParts}
 use Rattle.record_rule.specs.HandingOut.{IsOwnOf}
 use Rattle.record_pieces.specs.Events.{Event}
 use Rattle.manager.specs.Callers.{AnswersNone}
@@ -9,10 +8,6 @@ use Rattle.set_calls.specs.Answers.{InsertTells}
 use Rattle.michael_list.specs.declared.inserting.Tried.{Tried}
 use Rattle.michael_list.specs.declared.inserting.Tried.TheVariants.{Answered, Refused}
 use Rattle.michael_list.specs.Pieces.{Insertings, Inserts}
-
--- the record that the call has from an earlier try is its own
-abbrev pub OwnsHand : View → Option RefParts → Type 0
-OwnsHand v hand = MatchOption hand (Unit {0}) (λ own. IsOwnOf v own)
 
 -- it was answered, or made a hop and leaves the next one its record
 abbrev pub TriedTells : ℕ → ℕ → ℕ → Tried → View → View → Type 0

@@ -4,26 +4,27 @@ ghost use Rattle.set_model.specs.declared.calls.Call.TheVariants.{Insert};
 ghost use Rattle.row_words.specs.Refs.{RefParts, LinkParts};
 ghost use Rattle.record_rule.specs.HandingOut.{IsOwnOf};
 ghost use Rattle.record_table.specs.Handles.{setup_of, view};
-ghost use Rattle.record_pieces.specs.Events.{Event, refused};
-ghost use Rattle.reclaim_api.specs.Holds.{KeepsHeld};
+ghost use Rattle.record_pieces.specs.Events.{Event};
 ghost use Rattle.manager.specs.Callers.{AnswersNone};
-ghost use Rattle.manager.specs.Guards.{IsAtWork, Did, DidAll};
-ghost use Rattle.set_calls.specs.Going.{IsSameGuard, GoesOn};
+ghost use Rattle.manager.specs.Guards.{IsAtWork, DidAll};
+ghost use Rattle.set_calls.specs.Going.{IsSameGuard};
 ghost use Rattle.set_calls.specs.Answers.{Decided, InsertTells};
-ghost use Rattle.michael_list.specs.Pieces.{target_of, links, back, HasRecord, Insertings, Inserts};
-ghost use Rattle.michael_list.specs.Knowing.{IsHome, StandsBefore, IsBeyond};
-ghost use Rattle.michael_list.specs.Tries.{OwnsHand, TriedTells, TriedDoes};
+ghost use Rattle.list_calls.specs.Records.{OwnsHand};
+ghost use Rattle.list_calls.specs.Standing.{IsHome, StandsBefore, IsBeyond};
+ghost use Rattle.michael_list.specs.Pieces.{links, Insertings, Inserts};
+ghost use Rattle.michael_list.specs.Tries.{TriedTells, TriedDoes};
 
 use crate::shape::MichaelShape;
 use crate::spots::Spot;
 use crate::walking::find;
-use alloc_api::{Allocator, NoRecord};
+use alloc_api::Allocator;
+use list_calls::{give_back, take_record, target_of};
 use manager::Guard;
 use pool::Pool;
 use reclaim_api::Scheme;
 use record_memory::{KEY, LINK};
 use record_table::{Held, Node, Own};
-use row_words::{Link, Ref, pack_ref};
+use row_words::{Link, pack_ref};
 use set_calls::place_seen;
 use set_model::{Call, InsertAnswer};
 
@@ -33,56 +34,6 @@ pub enum Tried {
     Answered(InsertAnswer),
     /// The record that the next try has, since a word had changed.
     Refused(Own),
-}
-
-// The record that the call has from an earlier try, or a fresh one.
-fn take_record<'a, R: Scheme, A: Allocator, P: Pool>(
-    guard: &mut Guard<'a, MichaelShape, R, A, P>,
-    hand: Option<Own>,
-) -> Result<Own, NoRecord>
-    requires at_work { IsAtWork guard.old }
-    requires hand { OwnsHand (view guard.old.caller.now.pass) hand }
-    ensures at_work { IsAtWork guard.new }
-    ensures on { GoesOn guard.old guard.new }
-    ensures keeps { KeepsHeld guard.old.caller.now.pass guard.new.caller.now.pass }
-    ensures own { IfOk result (λ own. IsOwnOf (view guard.new.caller.now.pass) own) }
-    ensures did { MatchResult result
-        (λ own. (es : List Event) × HasRecord own hand es × DidAll guard.old es guard.new)
-        (λ none. (hand ≡ None) × Did guard.old (refused none.found) guard.new) }
-{
-    match hand {
-        Some(own) => Ok(own),
-        None => guard.fresh(),
-    }
-}
-
-// Gives a record back that the call has and doesn't need.
-fn give_back<'a, R: Scheme, A: Allocator, P: Pool>(
-    guard: &mut Guard<'a, MichaelShape, R, A, P>,
-    hand: Option<Own>,
-)
-    requires at_work { IsAtWork guard.old }
-    requires hand { OwnsHand (view guard.old.caller.now.pass) hand }
-    ensures at_work { IsAtWork guard.new }
-    ensures same { IsSameGuard guard.old guard.new }
-    ensures answers { AnswersNone (view guard.old.caller.now.pass) (view guard.new.caller.now.pass) }
-    ensures keeps { KeepsHeld guard.old.caller.now.pass guard.new.caller.now.pass }
-    ensures seen { (view guard.new.caller.now.pass).own.updates_seen ≡ (view guard.old.caller.now.pass).own.updates_seen }
-    ensures did { DidAll guard.old (back hand) guard.new }
-{
-    if let Some(own) = hand {
-        guard.give_back(own);
-    }
-}
-
-// The record that a walk found behind the key's place, if there is one.
-fn target_of(next: &Option<Held>) -> Option<Ref>
-    ensures { result ≡ target_of next.now }
-{
-    match next {
-        Some(at) => Some(at.target),
-        None => None,
-    }
 }
 
 /// Fills the record and links it between a node and the next record, as a walk for the key found them, which decides the

@@ -21,7 +21,7 @@ ghost use Rattle.manager.specs.Made.{passes_of, AreAddedUp};
 ghost use Rattle.set_calls.specs.Answers.{InsertTells, RemoveTells, SearchTells};
 ghost use Rattle.set_calls.specs.Spares.{GivesBack};
 ghost use Rattle.michael_list.specs.Pieces.{Inserts, Removes, Searches};
-ghost use Rattle.michael_list.specs.Knowing.{IsHome};
+ghost use Rattle.list_calls.specs.Standing.{IsHome};
 
 use crate::inserting::insert;
 use crate::removing::{remove, search};

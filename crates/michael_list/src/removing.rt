@@ -18,7 +18,8 @@ ghost use Rattle.manager.specs.Guards.{IsAtWork, Did, DidAll};
 ghost use Rattle.set_calls.specs.Going.{IsSameGuard};
 ghost use Rattle.set_calls.specs.Answers.{Decided, RemoveTells, SearchTells};
 ghost use Rattle.michael_list.specs.Pieces.{marks, Removings, Removes, Searches};
-ghost use Rattle.michael_list.specs.Knowing.{IsHome, StandsAt, rank, absent_at};
+ghost use Rattle.list_calls.specs.Standing.{IsHome, StandsAt, rank};
+ghost use Rattle.michael_list.specs.Knowing.{absent_at};
 
 use crate::shape::MichaelShape;
 use crate::spots::Spot;

@@ -11,7 +11,8 @@ ghost use Rattle.manager.specs.Guards.{IsAtWork, DidAll};
 ghost use Rattle.set_calls.specs.Going.{GoesOn};
 ghost use Rattle.set_calls.specs.Knowing.{HasSeenKey};
 ghost use Rattle.michael_list.specs.Walks.{unmarked, loads, TakesOut, Looks, Hops, Finds};
-ghost use Rattle.michael_list.specs.Knowing.{IsHome, StandsBefore, IsMarkNoted, HasReachedNext, IsLanding, IsNext, IsSpot, rank, shown_by, shown_of};
+ghost use Rattle.list_calls.specs.Standing.{IsHome, StandsBefore, rank};
+ghost use Rattle.michael_list.specs.Knowing.{IsMarkNoted, HasReachedNext, IsLanding, IsNext, IsSpot, shown_by, shown_of};
 
 use crate::shape::MichaelShape;
 use crate::spots::{Landing, Spot};

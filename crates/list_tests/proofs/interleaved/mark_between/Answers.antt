@@ -1,7 +1,7 @@
 use Rattle.record_table.specs.declared.nodes.Node.TheVariants.{At}
 use Rattle.michael_list.specs.declared.spots.Spot.TheVariants.{Present}
 use Rattle.michael_list.specs.Knowing.{IsSpot}
-use Rattle.michael_list.proofs.Standing.{stands_relinked}
+use Rattle.list_calls.proofs.Standing.{stands_relinked}
 use Rattle.michael_list.proofs.Ends.{is_spot}
 use Rattle.list_tests.proofs.interleaved.mark_between.Goals as goal
 

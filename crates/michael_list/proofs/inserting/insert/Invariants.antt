@@ -5,7 +5,7 @@ use Rattle.manager.specs.Callers.{AnswersNone}
 use Rattle.manager.specs.Guards.{IsAtWork, DidAll}
 use Rattle.set_calls.specs.Going.{IsSameGuard}
 use Rattle.michael_list.specs.Pieces.{Insertings}
-use Rattle.michael_list.specs.Tries.{OwnsHand}
+use Rattle.list_calls.specs.Records.{OwnsHand}
 use Rattle.michael_list.proofs.inserting.insert.Given as goal
 
 -- no try was answered, and the call has the record that they left

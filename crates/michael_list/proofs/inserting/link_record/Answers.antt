@@ -10,10 +10,10 @@ use Rattle.record_pieces.specs.Events.{Event, stored_own, published}
 use Rattle.reclaim_api.proofs.Keeping.{held_then}
 use Rattle.manager.specs.Guards.{Did, DidAll}
 use Rattle.set_calls.proofs.Going.{did_one, did_then}
-use Rattle.michael_list.specs.Pieces.{target_of, links}
-use Rattle.michael_list.proofs.Standing.{before_held}
-use Rattle.michael_list.proofs.Filling.{may_link}
-use Rattle.michael_list.proofs.Inserted.{beyond_held}
+use Rattle.list_calls.specs.Records.{target_of}
+use Rattle.michael_list.specs.Pieces.{links}
+use Rattle.list_calls.proofs.Standing.{before_held, beyond_held}
+use Rattle.list_calls.proofs.Filling.{may_link}
 use Rattle.michael_list.proofs.inserting.link_record.Goals.{After-publish}
 use Rattle.michael_list.proofs.inserting.link_record.Goals as goal
 
@@ -34,7 +34,7 @@ publish-requires-clause-allowed g c =
     let before = before_held p s setup c.args.root keeps c.args.key c.args.before c.requires.before in
     let next = beyond_held p s setup c.args.root keeps c.args.key c.args.next c.requires.next in
     let expected : c.to-expected.result ≡ record { flags = 0; target = target_of c.args.next } = c.to-expected.ensures.link ∙ ap (λ (t : Option RefParts). record { flags = 0; target = t }) c.target_of-2.ensures in
-    let may = may_link s c.args.root c.args.key c.args.before c.args.next (setup_of c.store_own-2.new.self.manager.now.table) c.args.own (view p) (view q) c.to-expected.result
+    let may = may_link 0 s c.args.root c.args.key c.args.before c.args.next (setup_of c.store_own-2.new.self.manager.now.table) c.args.own (view p) (view q) c.to-expected.result
     c.store_own-2.new.self.of.setup (roots ∙ c.requires.home.1) c.requires.key before next c.requires.own first.step step expected in
     (may.0, may.1, subst (λ (own : RefParts). HasOwn (view s) own may.0) (sym own_is) may.2, may.3, may.4)
 

@@ -10,10 +10,11 @@ use Rattle.set_calls.proofs.Answering.{none_then}
 use Rattle.michael_list.specs.declared.spots.Spot.{Spot}
 use Rattle.michael_list.specs.declared.spots.Spot.TheVariants.{Present}
 use Rattle.michael_list.specs.Walks.{Finds}
-use Rattle.michael_list.specs.Pieces.{back, links}
+use Rattle.list_calls.specs.Records.{back}
+use Rattle.michael_list.specs.Pieces.{links}
 use Rattle.michael_list.specs.Knowing.{IsSpot, shown_at}
-use Rattle.michael_list.proofs.Standing.{before_held, seen_held}
-use Rattle.michael_list.proofs.Inserted.{beyond_held, no_hops_left, key_was_there, none_was_left, was_linked, was_refused}
+use Rattle.list_calls.proofs.Standing.{before_held, seen_held, beyond_held}
+use Rattle.michael_list.proofs.Inserted.{no_hops_left, key_was_there, none_was_left, was_linked, was_refused}
 use Rattle.michael_list.proofs.inserting.try_insert.Goals as goal
 
 pub place_seen-requires-clause-allowed : goal.place_seen-requires-clause-allowed

@@ -3,7 +3,7 @@ use Rattle.record_memory.specs.declared.books.Setup.{Setup}
 use Rattle.record_table.specs.Handles.{view, setup_of}
 use Rattle.set_calls.proofs.Going.{did_then, same_guard, same_guards}
 use Rattle.set_calls.proofs.Answering.{none_then, removal_since}
-use Rattle.michael_list.specs.Knowing.{IsHome}
+use Rattle.list_calls.specs.Standing.{IsHome}
 use Rattle.michael_list.specs.Pieces.{none}
 use Rattle.michael_list.proofs.removing.remove.Goals as goal
 

@@ -13,7 +13,7 @@ use Rattle.michael_list.specs.declared.spots.Spot.TheVariants.{Present}
 use Rattle.michael_list.specs.Walks.{Finds}
 use Rattle.michael_list.specs.Pieces.{marks, Removings, Removes, more, takes_away, lacks_it, again}
 use Rattle.michael_list.specs.Knowing.{IsSpot, absent_at}
-use Rattle.michael_list.proofs.Standing.{stands_relinked}
+use Rattle.list_calls.proofs.Standing.{stands_relinked}
 use Rattle.michael_list.proofs.Ends.{is_spot, finds_it}
 use Rattle.michael_list.proofs.removing.try_remove.Goals as goal
 

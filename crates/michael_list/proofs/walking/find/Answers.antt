@@ -3,8 +3,9 @@ use Rattle.record_table.specs.Handles.{view}
 use Rattle.set_calls.proofs.Going.{goes_nowhere, goes_then, did_then}
 use Rattle.michael_list.specs.declared.spots.Landing.TheVariants.{Found}
 use Rattle.michael_list.specs.Walks.{Hops, starts, found, needs_more}
-use Rattle.michael_list.specs.Knowing.{IsSpot, rank, shown_at}
-use Rattle.michael_list.proofs.Homes.{home_then, root_there}
+use Rattle.list_calls.specs.Standing.{rank}
+use Rattle.michael_list.specs.Knowing.{IsSpot, shown_at}
+use Rattle.list_calls.proofs.Homes.{home_then, root_there}
 use Rattle.michael_list.proofs.Steps.{at_root, next_from, ends_at}
 use Rattle.michael_list.proofs.walking.find.Goals as goal
 

@@ -3,7 +3,7 @@ use Rattle.record_pieces.specs.Events.{Event}
 use Rattle.manager.specs.Guards.{IsAtWork, DidAll}
 use Rattle.set_calls.specs.Going.{GoesOn}
 use Rattle.michael_list.specs.Walks.{Walks}
-use Rattle.michael_list.specs.Knowing.{rank, StandsBefore}
+use Rattle.list_calls.specs.Standing.{rank, StandsBefore}
 use Rattle.michael_list.proofs.walking.find.Given as goal
 
 -- the walk came to before this node by these hops

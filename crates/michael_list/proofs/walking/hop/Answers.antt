@@ -12,7 +12,8 @@ use Rattle.set_calls.proofs.Going.{did_one, did_then}
 use Rattle.michael_list.specs.Walks.{Looks, Hops, ends, meets_mark, moves, reaches}
 use Rattle.michael_list.specs.declared.spots.Spot.TheVariants.{Absent}
 use Rattle.michael_list.specs.declared.spots.Landing.TheVariants.{Found}
-use Rattle.michael_list.specs.Knowing.{StandsBefore, HasReachedNext, IsLanding, rank, shown_by}
+use Rattle.list_calls.specs.Standing.{StandsBefore, rank}
+use Rattle.michael_list.specs.Knowing.{HasReachedNext, IsLanding, shown_by}
 use Rattle.michael_list.proofs.Reached.{absent_at_end, before_still, stands_else, reaches_next}
 use Rattle.michael_list.proofs.walking.hop.Goals as goal
 

@@ -8,7 +8,7 @@ use Rattle.michael_list.specs.declared.spots.Spot.TheVariants.{Absent}
 use Rattle.michael_list.specs.declared.spots.Landing.TheVariants.{Found}
 use Rattle.michael_list.specs.Walks.{unmarked, loads, TakesOut, Looks, passes, finds, misses, clears, is_late}
 use Rattle.michael_list.specs.Knowing.{IsMarkNoted}
-use Rattle.michael_list.proofs.Standing.{stands_relinked}
+use Rattle.list_calls.proofs.Standing.{stands_relinked}
 use Rattle.michael_list.proofs.walking.look.Goals as goal
 
 -- what the test of the mark says

@@ -12,10 +12,12 @@ use Rattle.record_pieces.specs.Events.{keyed, looked}
 use Rattle.manager.specs.Guards.{Did}
 use Rattle.set_calls.specs.Knowing.{HasSeenKey}
 use Rattle.michael_list.specs.Walks.{unmarked}
-use Rattle.michael_list.specs.Knowing.{rank, IsMarkNoted, HasReachedNext}
+use Rattle.list_calls.specs.Standing.{rank}
+use Rattle.michael_list.specs.Knowing.{IsMarkNoted, HasReachedNext}
 use Rattle.michael_list.proofs.Looking.{did_loads}
-use Rattle.michael_list.proofs.Standing.{stands_held, reached_still}
-use Rattle.michael_list.proofs.Loaded.{rank_loaded, mark_noted, no_flag, in_range, present_there}
+use Rattle.list_calls.proofs.Standing.{stands_held, rank_loaded}
+use Rattle.michael_list.proofs.Reached.{reached_still}
+use Rattle.michael_list.proofs.Loaded.{mark_noted, no_flag, in_range, present_there}
 use Rattle.michael_list.proofs.walking.read.Goals as goal
 
 -- the record's key and link as they were loaded

@@ -7,7 +7,7 @@ use Rattle.alloc_api.specs.declared.Allocator.{Ghosts as OfAllocator}
 use Rattle.pool.specs.declared.Pool.{Ghosts as OfPool}
 use Rattle.manager.specs.declared.types.Guard.{Guard}
 use Rattle.set_calls.specs.Going.{IsSameGuard}
-use Rattle.michael_list.specs.Knowing.{IsHome}
+use Rattle.list_calls.specs.Standing.{IsHome}
 
 module _ {S R L A P : Type 0} {r : OfScheme R L} {a : OfAllocator A} {p : OfPool P} where
   -- its table is the same one

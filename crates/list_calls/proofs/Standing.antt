@@ -1,10 +1,10 @@
 -- What a walker knows of a node and of its key, after calls that keep it.
-use Rattle.std.proofs.Common.{◌≡◌, ◌≢◌, ◌⊎◌, inl, ℕ, ◌+◌, ◌%◌, ◌<◌, Bool, false, Some, None, sym, refl, ap, ◌∙◌, subst, arith}
+use Rattle.std.proofs.Common.{◌≡◌, ◌≢◌, ◌⊎◌, inl, ℕ, ◌+◌, ◌%◌, ◌<◌, Bool, Option, Some, None, sym, refl, ap, ◌∙◌, subst, arith}
 use Rattle.record_memory.specs.declared.books.Setup.{Setup}
 use Rattle.record_memory.specs.declared.books.Note.{Note}
 use Rattle.row_words.specs.Packing.{key_in}
 use Rattle.record_rule.specs.Facts.{At as Stands}
-use Rattle.record_rule.specs.Links.{note_in}
+use Rattle.record_rule.specs.Links.{note_in, LoadedKey}
 use Rattle.record_rule.proofs.Lists.{get_at}
 use Rattle.record_table.specs.declared.passes.Pass.{Pass}
 use Rattle.record_table.specs.declared.nodes.Held.{Held}
@@ -17,11 +17,15 @@ use Rattle.reclaim_api.specs.Holds.{KeepsSome, KeepsHeld, KeepsButLink, IsElsewh
 use Rattle.manager.specs.Callers.{AnswersNone}
 use Rattle.set_calls.specs.Knowing.{HasSeenKey}
 use Rattle.set_calls.proofs.Seen.{seen_still}
-use Rattle.michael_list.specs.Knowing.{rank, StandsAt, StandsBefore, HasReachedNext}
+use Rattle.list_calls.specs.Standing.{rank, StandsAt, StandsBefore, IsBeyond}
 
 -- the key of a note is that of its second word
 pub key_known : (note : Note) (n : ℕ) → Stands note.words 1 (Some n) → key_noted note ≡ key_in n
 key_known note n at = ap key_in_note (get_at note.words 1 (Some n) None at)
+
+-- the key that was loaded of a record is that by which it stands
+pub rank_loaded : {S R : Type 0} (p q : Pass S R) (at : Held) (n : ℕ) → LoadedKey (view p) at.place at.target n (view q) → rank p (At at) ≡ key_in n + 1
+rank_loaded p q at n told = ap (λ k. k + 1) (key_known (note_in (view p).own.notes at.place) n told.known)
 
 -- what is held there is kept, with its key
 abbrev pub Covers : (ℕ → Type 0) → (ℕ → ℕ → Type 0) → Node → Type 0
@@ -67,17 +71,6 @@ module _ {S R : Type 0} (p q : Pass S R) (setup : (view q).setup ≡ (view p).se
     pub seen_held : AnswersNone (view p) (view q) → (key : ℕ) (b : Bool) {position : ℕ} → HasSeenKey p key b position → HasSeenKey q key b position
     seen_held none key b h = seen_still p q setup none key b (λ place. Unit {0}) (λ place f. Unit {0}) keeps h
 
-    -- what was reached is the next record still
-    pub reached_still : AnswersNone (view p) (view q) → (key : ℕ) (before : Node) (at : Held) {seen : ℕ} → HasReachedNext p root key before at seen → HasReachedNext q root key before at seen
-    reached_still none key before at h = let a = stands_held before h.before_it.stands in let b = stands_held (At at) h.stands in record {
-      before_it = before_held key before h.before_it;
-      else = h.else;
-      stands = b.0;
-      rises = let e = a.1 in let f = b.1 in let r = h.rises in omega arith;
-      reached_at = keeps.reached at.place tt ∙ h.reached_at;
-      gap = λ above. seen_held none key false (h.gap (let f = b.1 in omega (arith, above)));
-    }
-
   -- and where a link was left anew
   pub stands_relinked : (o : Node) → KeepsButLink (origin o) p q → (node : Node) → StandsAt p root node → StandsAt q root node × (rank q node ≡ rank p node)
   stands_relinked o keeps node h = stands_still (λ place. Unit {0}) (λ place f. (f ≢ 0) ⊎ IsElsewhere (origin o) place) p q setup keeps root node (covers node) h
@@ -85,3 +78,8 @@ module _ {S R : Type 0} (p q : Pass S R) (setup : (view q).setup ≡ (view p).se
       covers : (n : Node) → Covers (λ place. Unit {0}) (λ place f. (f ≢ 0) ⊎ IsElsewhere (origin o) place) n
       covers (Root n) = tt
       covers (At at) = (tt, inl (omega arith))
+
+-- the next record has a greater key still, where all is kept
+pub beyond_held : {S R : Type 0} (p q : Pass S R) → (view q).setup ≡ (view p).setup → (root : ℕ) → KeepsHeld p q → (key : ℕ) (next : Option Held) → IsBeyond p root key next → IsBeyond q root key next
+beyond_held p q setup root keeps key None beyond = tt
+beyond_held p q setup root keeps key (Some at) beyond = let s = stands_held p q setup root keeps (At at) beyond.0 in (s.0, (let e = s.1 in let b = beyond.1 in omega arith))

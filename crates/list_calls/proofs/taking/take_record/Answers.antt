@@ -1,6 +1,6 @@
 use Rattle.std.proofs.Common.{[], refl}
-use Rattle.michael_list.proofs.Inserted.{has_own, took_one}
-use Rattle.michael_list.proofs.inserting.take_record.Goals as goal
+use Rattle.list_calls.proofs.Records.{has_own, took_one}
+use Rattle.list_calls.proofs.taking.take_record.Goals as goal
 
 pub returns-in-Some-clause-did : goal.returns-in-Some-clause-did
 returns-in-Some-clause-did g c = ([], has_own c.in-Some.own c.args.hand c.in-Some.is, refl)
