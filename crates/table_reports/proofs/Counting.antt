@@ -1,5 +1,5 @@
 -- The printed counts are those of the closed table.
-use Rattle.std.proofs.Common.{◌≡◌, ◌+◌, ◌∙◌, arith}
+use Rattle.std.proofs.Common.{◌∙◌, arith}
 use Rattle.set_model.specs.declared.calls.Counts.{Counts}
 use Rattle.record_table.specs.Closing.{closed_books}
 use Rattle.record_table.specs.declared.closing.Closed.{Closed}
