@@ -3,7 +3,8 @@
 //! A manager puts a reclaimer, a pool and an allocator behind one front, after Brown's record manager
 //! ("Reclaiming memory for lock-free data structures: there has to be a better way", PODC 2015). A caller
 //! begins an operation and gets a guard, as in Rust's crossbeam-epoch; by it alone it holds records, takes
-//! fresh ones, links, marks and takes out, and retires. The guard must be spent by `finish`. Each call's
+//! fresh ones, links, marks and takes out, also where it has locked a link, and retires. Under some
+//! reclaimers it may follow links of marked records, too. The guard must be spent by `finish`. Each call's
 //! steps are an event of `record_pieces`.
 #![tactic(auto)]
 
