@@ -147,7 +147,7 @@ module _ (setup : Setup) (is_setup : IsSetup setup) (bump : setup.allocator ≡ 
       new_to same lt = (
         not_had setup is_setup shape cover s u id v at present n lt (one_drawn lt).was,
         ap (λ b. get_or (cond b (set v.own.mine n (Some (drawn_share v.setup.first))) v.own.mine) (n + 1 - 1) None) (lt-ltb n v.setup.records (let e : v.setup.records ≡ setup.records = ap (λ (k : Setup). k.records) same in omega arith))
-        ∙ is_had setup is_setup shape cover s u id v at present n (Some (drawn_share v.setup.first)) lt,
+            ∙ is_had setup is_setup shape cover s u id v at present n (Some (drawn_share v.setup.first)) lt,
       )
 
       -- which is no less than before, and than the step finds

@@ -63,13 +63,19 @@ module _ (setup : Setup) (is_setup : IsSetup setup) (once : setup.allocator ≡ 
         within = place_within c n caller lt;
         was = left_to m (place c n) (omega arith, let e = ap (λ (z : ℕ). get_or m.cursors z 0) (of_range c n lt) in let r = in_range c n lt in omega arith);
         gone = λ l. let h = (left_from m' (place c n) l).1 in let e = ap (λ (z : ℕ). get_or m'.cursors z 0) (of_range c n lt) in let r = in_range c n lt in omega arith;
-        fewer = λ j l. let h = left_from m' j l in left_to m j (h.0, dite (ℕ_discrete ((j - setup.roots) / q) c)
-            (λ e. let a = h.1 in let x = ap (λ (z : ℕ). get_or m.cursors z 0) e in let y = ap (λ (z : ℕ). get_or m'.cursors z 0) e in omega arith)
-            (λ ne. let a = h.1 in let x = get_or-set_other m.cursors c ((j - setup.roots) / q) (n + 1) 0 ne in omega arith));
-        others = λ j ne l. let h = left_from m j l in left_to m' j (h.0, dite (ℕ_discrete ((j - setup.roots) / q) c)
-            (λ e. let a = h.1 in let x = ap (λ (z : ℕ). get_or m.cursors z 0) e in let y = ap (λ (z : ℕ). get_or m'.cursors z 0) e in
-            let other : (j - setup.roots) % q ≢ n = λ r. ne (one_place c n j h.0 e r) in omega arith)
-            (λ k. let a = h.1 in let x = get_or-set_other m.cursors c ((j - setup.roots) / q) (n + 1) 0 k in omega arith));
+        fewer = λ j l. let h = left_from m' j l in left_to m j (
+          h.0,
+          dite (ℕ_discrete ((j - setup.roots) / q) c)
+              (λ e. let a = h.1 in let x = ap (λ (z : ℕ). get_or m.cursors z 0) e in let y = ap (λ (z : ℕ). get_or m'.cursors z 0) e in omega arith)
+              (λ ne. let a = h.1 in let x = get_or-set_other m.cursors c ((j - setup.roots) / q) (n + 1) 0 ne in omega arith),
+        );
+        others = λ j ne l. let h = left_from m j l in left_to m' j (
+          h.0,
+          dite (ℕ_discrete ((j - setup.roots) / q) c)
+              (λ e. let a = h.1 in let x = ap (λ (z : ℕ). get_or m.cursors z 0) e in let y = ap (λ (z : ℕ). get_or m'.cursors z 0) e in
+              let other : (j - setup.roots) % q ≢ n = λ r. ne (one_place c n j h.0 e r) in omega arith)
+              (λ k. let a = h.1 in let x = get_or-set_other m.cursors c ((j - setup.roots) / q) (n + 1) 0 k in omega arith),
+        );
         grows = omega arith;
         drawn = let e = u.drawn_is once in let r = is_setup.rooted in omega arith;
         untouched = record {
