@@ -1,7 +1,7 @@
 -- The callers of passes that made no step, in order.
 use Rattle.std.proofs.Common.{◌≡◌, ℕ, zero, suc, ◌+◌, ◌<◌, ◌≤◌, length, List, [], ◌∷◌, ◌++◌, map, All, cond, Bool, false, get_or, replicate, None, Option, sym, refl, ap, ◌∙◌, arith}
 use Rattle.std.specs.List.{count_by}
-use Rattle.std.proofs.lemmas.List.{reverse-append, append_assoc}
+use Rattle.std.proofs.lemmas.List.{reverse-append, append_assoc, append-nil, nil_from_length}
 use Rattle.std.proofs.lemmas.List.Sums.{sum_by-cons}
 use Rattle.std.proofs.lemmas.List.Elements.{All-nil, All-cons}
 use mathlib.Core.List.{reverse}
@@ -10,11 +10,12 @@ use Rattle.record_memory.specs.declared.books.Setup.{Setup}
 use Rattle.record_memory.specs.declared.books.Book.{Book}
 use Rattle.record_memory.specs.declared.books.Share.{Share}
 use Rattle.record_memory.specs.declared.books.View.{View}
+use Rattle.record_rule.specs.World.{carries}
 use Rattle.record_rule.specs.Kinds.{is_idle, idle}
 use Rattle.record_table.specs.declared.table.Table.{Table}
 use Rattle.record_table.specs.declared.passes.Pass.{Pass}
 use Rattle.record_table.specs.Handles.{setup_of, view, is_inside}
-use Rattle.record_table.specs.Closing.{own_caller, numbers_from}
+use Rattle.record_table.specs.Closing.{own_book, own_caller, numbers_from}
 use Rattle.record_table.specs.Made.{IsFresh, AreFreshFrom}
 use Rattle.record_table.proofs.Closings.{tail_fresh}
 use Rattle.manager.specs.declared.types.Caller.{Caller}
@@ -97,3 +98,7 @@ module _ {S R L : Type 0} where
   no_callers [] none zero some e = omega arith
   no_callers [] none (suc n) some e = cc
   no_callers (c ∷ cs) none n some e = omega arith
+
+-- a view that absorbed all passes but those that are left carries all books once none is left
+pub all_absorbed : {S R : Type 0} (all : List Book) (left : List (Pass S R)) (v : View) → length left ≡ 0 → carries v ++ map own_book (reverse left) ≡ all → carries v ≡ all
+all_absorbed {S} {R} all left v none is = sym (append-nil (carries v)) ∙ ap (λ (l : List (Pass S R)). carries v ++ map own_book (reverse l)) (sym (nil_from_length left none)) ∙ is

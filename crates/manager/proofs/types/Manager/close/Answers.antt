@@ -4,12 +4,12 @@ use Rattle.std.proofs.lemmas.List.Elements.{All-pop, All-same}
 use mathlib.Core.List.{reverse}
 use Rattle.record_memory.specs.declared.books.Book.{Book}
 use Rattle.record_memory.specs.declared.books.View.{View}
-use Rattle.record_rule.specs.World.{StartsWith}
+use Rattle.record_rule.specs.World.{StartsWith, carries}
 use Rattle.record_table.specs.Handles.{view}
 use Rattle.record_table.specs.Closing.{IsWholePassOf}
 use Rattle.record_table.proofs.Closings.{All-reverse, first_all, more_all, last_all, first_heard, more_heard, all_heard}
 use Rattle.manager.specs.Made.{pass_of, passes_of}
-use Rattle.manager.proofs.Seats.{passes_reversed, popped_passes, no_callers}
+use Rattle.manager.proofs.Seats.{passes_reversed, popped_passes, no_callers, all_absorbed}
 use Rattle.manager.proofs.KeepLocks.{none_locked}
 use Rattle.manager.proofs.Sums.{moves_add_up}
 use Rattle.manager.proofs.types.Manager.close.Goals as goal
@@ -53,4 +53,5 @@ pub returns-clause-moves : goal.returns-clause-moves
 returns-clause-moves g c = let f = c.close_last.ensures.fits in record { records = f.records; placed = f.placed; sums = moves_add_up _ f.records _ _ f.placed f.moved }
 
 pub returns-clause-unlocked : goal.returns-clause-unlocked
-returns-clause-unlocked g c rest = All-same (λ (b : Book). b.locks ≡ []) _ _ (returns-clause-books g c) (none_locked g.R.Scheme.is_local c.args.callers.items rest)
+returns-clause-unlocked g c rest = All-same (λ (b : Book). b.locks ≡ []) _ _ (ap carries c.close_last.ensures.view ∙ all_absorbed _ (passes_of c.loop-caller.callers.items) _
+    (let e = c.in_default-pop.ensures.cases.0 in let l = c.loop-caller.callers.ok.0 in let m = length-map c.loop-caller.callers.items pass_of in omega arith) c.loop-caller.invariant.all) (none_locked g.R.Scheme.is_local c.args.callers.items rest)
