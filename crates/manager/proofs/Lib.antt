@@ -14,6 +14,7 @@ pub mod Dids
 pub mod Seats
 pub mod Owns
 pub mod StepKeeps
+pub mod Locks
 pub mod MoveCounts
 pub mod ChainCounts
 pub mod Stocks

@@ -3,6 +3,8 @@ use Rattle.std.proofs.Common.{◌≡◌, ℕ, ◌-◌, ◌<◌, ◌≤◌, List,
 use Rattle.std.specs.Prelude.{MatchResult}
 use Rattle.set_model.specs.declared.calls.Call.{Call}
 use Rattle.record_memory.specs.declared.steps.Step.{Step}
+use Rattle.record_memory.specs.declared.steps.StepKind.{StepKind}
+use Rattle.record_memory.specs.declared.books.LockedWord.{LockedWord}
 use Rattle.record_memory.specs.declared.books.Setup.{Setup}
 use Rattle.record_memory.specs.declared.books.Moves.{Moves}
 use Rattle.record_memory.specs.declared.books.View.{View}
@@ -14,7 +16,7 @@ use Rattle.row_words.specs.declared.links.Chain.{Chain}
 use Rattle.record_rule.specs.Facts.{ShapeFacts, CoverFacts, clean}
 use Rattle.record_rule.specs.Kinds.{share_in, moves_stored, stored, stored_as, share_after, standing_after, idle}
 use Rattle.record_rule.specs.HandingOut.{IsOwnOf}
-use Rattle.record_rule.specs.Links.{Origin, ExchangedLink, PublishedLink, UnlinkedRecord}
+use Rattle.record_rule.specs.Links.{Origin, ExchangedLink, PublishedLink, UnlinkedRecord, LeftLink, PublishedBy, UnlinkedBy}
 use Rattle.record_rule.proofs.HandingOut.{known_within}
 use Rattle.record_rule.proofs.Makes.{idle_mine}
 use Rattle.record_table.specs.declared.nodes.Found.{Found}
@@ -101,21 +103,33 @@ module _ (c : CoverFacts) (v w : View) where
     refused_leaves : (old link : LinkParts) → IsRefused v o old link w → LeavesAll c v w
     refused_leaves old link e = leaves_records _ (goes_on c _ _ (ap (λ (x : View). x.own.guard) e.refused.view)) (ap (λ (x : View). x.own.mine) e.refused.view) (ap (λ (x : View). x.own.moves) e.refused.view) (ap (λ (x : View). x.own.steps) e.refused.view)
 
-    -- an exchange of a link
-    pub exchange_leaves : {U : Type 0} (old new : LinkParts) (call : Option Call) (r : Result U Found) → MatchResult r (λ _. ExchangedLink s v o 3 old new call w) (λ found. IsRefused v o old found.link w) → LeavesAll c v w
-    exchange_leaves old new call (Ok u) e = leaves_records _ (goes_on c _ _ (ap (λ (x : View). x.own.guard) e.view)) (ap (λ (x : View). x.own.mine) e.view) (ap (λ (x : View). x.own.moves) e.view) (ap (λ (x : View). x.own.steps) e.view)
-    exchange_leaves old new call (Err found) e = refused_leaves old found.link e
+    -- a step that leaves another link
+    pub left_leaves : {kind : StepKind} {locks : List LockedWord} (old new : LinkParts) (call : Option Call) → LeftLink s v kind o 3 old new call locks w → LeavesAll c v w
+    left_leaves old new call e = leaves_records _ (goes_on c _ _ (ap (λ (x : View). x.own.guard) e.view)) (ap (λ (x : View). x.own.mine) e.view) (ap (λ (x : View). x.own.moves) e.view) (ap (λ (x : View). x.own.steps) e.view)
 
     -- one that links an own record
-    pub publish_leaves : {U : Type 0} (old : LinkParts) (own : RefParts) (call : Option Call) → IsOwnOf v own → (r : Result U (RefParts × Found)) → MatchResult r (λ _. PublishedLink s v o 3 old own call w) (λ back. (back.0 ≡ own) × IsRefused v o old back.1.link w) → LeavesAll c v w
-    publish_leaves old own call has (Ok u) e = let h = has.1 in leaves_others _ own.index (Some h.share) None h.known (ap (λ (x : View). x.own.mine) e.view) (known_within v.own.mine (own.index - 1) h.share h.known) (subst IsAloof (λ k. Some (record h.share { standing = sym h.standing_is k })) tt) tt
+    pub linked_leaves : {kind : StepKind} {locks : List LockedWord} (old : LinkParts) (own : RefParts) (call : Option Call) → IsOwnOf v own → PublishedBy s v kind o 3 old own call locks w → LeavesAll c v w
+    linked_leaves old own call has e = let h = has.1 in leaves_others _ own.index (Some h.share) None h.known (ap (λ (x : View). x.own.mine) e.view) (known_within v.own.mine (own.index - 1) h.share h.known) (subst IsAloof (λ k. Some (record h.share { standing = sym h.standing_is k })) tt) tt
         (ap (λ (x : View). x.own.moves) e.view) (ap (λ (x : View). x.own.guard) e.view) (ap (λ (x : View). x.own.steps) e.view)
-    publish_leaves old own call has (Err back) e = refused_leaves old back.1.link e.1
 
     -- one that takes a record out
-    pub unlink_leaves : (gone : RefParts) (new : LinkParts) → 0 < v.setup.records → (r : Result RefParts Found) → MatchResult r (λ taken. (taken ≡ gone) × UnlinkedRecord s v o 3 gone new w) (λ found. IsRefused v o (clean gone) found.link w) → LeavesAll c v w
-    unlink_leaves gone new some (Ok taken) e = let u = e.1 in
+    pub out_leaves : {kind : StepKind} {locks : List LockedWord} (old : LinkParts) (gone : RefParts) (new : LinkParts) → 0 < v.setup.records → UnlinkedBy s v kind o 3 old gone new locks w → LeavesAll c v w
+    out_leaves old gone new some u =
         leaves_others _ gone.index None _ u.none (ap (λ (x : View). x.own.mine) u.view) (let a = u.within in let b = u.mine in omega arith) tt tt (ap (λ (x : View). x.own.moves) u.view) (ap (λ (x : View). x.own.guard) u.view) (ap (λ (x : View). x.own.steps) u.view)
+
+    -- an exchange of a link
+    pub exchange_leaves : {U : Type 0} (old new : LinkParts) (call : Option Call) (r : Result U Found) → MatchResult r (λ _. ExchangedLink s v o 3 old new call w) (λ found. IsRefused v o old found.link w) → LeavesAll c v w
+    exchange_leaves old new call (Ok u) e = left_leaves old new call e
+    exchange_leaves old new call (Err found) e = refused_leaves old found.link e
+
+    -- of an own record
+    pub publish_leaves : {U : Type 0} (old : LinkParts) (own : RefParts) (call : Option Call) → IsOwnOf v own → (r : Result U (RefParts × Found)) → MatchResult r (λ _. PublishedLink s v o 3 old own call w) (λ back. (back.0 ≡ own) × IsRefused v o old back.1.link w) → LeavesAll c v w
+    publish_leaves old own call has (Ok u) e = linked_leaves old own call has e
+    publish_leaves old own call has (Err back) e = refused_leaves old back.1.link e.1
+
+    -- of a held record
+    pub unlink_leaves : (gone : RefParts) (new : LinkParts) → 0 < v.setup.records → (r : Result RefParts Found) → MatchResult r (λ taken. (taken ≡ gone) × UnlinkedRecord s v o 3 gone new w) (λ found. IsRefused v o (clean gone) found.link w) → LeavesAll c v w
+    unlink_leaves gone new some (Ok taken) e = out_leaves (clean gone) gone new some e.1
     unlink_leaves gone new some (Err found) e = refused_leaves (clean gone) found.link e
 
   -- a store in an own record

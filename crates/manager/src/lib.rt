@@ -9,8 +9,10 @@
 
 mod callers;
 mod counting;
+mod following;
 mod giving;
 mod guard;
+mod locking;
 mod making;
 mod meeting;
 mod meeting_all;

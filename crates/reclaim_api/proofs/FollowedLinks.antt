@@ -1,12 +1,13 @@
 -- What a caller holds and knows once it followed a link, under a reclaimer by which it then holds at once what the link leads to.
-use Rattle.std.proofs.Common.{◌≡◌, ℕ, ◌+◌, ◌<◌, ◌≤◌, length, get_or, Bool, true, false, ◌&&◌, sym, ap, ◌∙◌, subst, refl, Option, Some, None}
+use Rattle.std.proofs.Common.{◌≡◌, ℕ, ◌+◌, ◌<◌, ◌≤◌, length, get_or, Bool, true, false, ◌&&◌, sym, ap, ◌∙◌, subst, refl, arith, Option, Some, None}
 use Rattle.std.proofs.lemmas.Bool.{and_right}
 use Rattle.std.proofs.lemmas.List.{length-map}
+use Rattle.atomic_table.proofs.Lists.{set_here}
 use Rattle.record_memory.specs.declared.books.View.{View}
 use Rattle.record_memory.specs.declared.books.Guard.{Guard}
 use Rattle.row_words.specs.Refs.{RefParts, LinkParts}
 use Rattle.row_words.specs.Packing.{link_in}
-use Rattle.record_rule.specs.Facts.{Moment, ShapeFacts, CoverFacts}
+use Rattle.record_rule.specs.Facts.{At, Moment, ShapeFacts, CoverFacts}
 use Rattle.record_rule.specs.Guards.{nothing_at, started_if, holding}
 use Rattle.record_rule.specs.Frozen.{FrozenLaws}
 use Rattle.record_rule.specs.Links.{Origin}
@@ -18,7 +19,7 @@ use Rattle.record_table.proofs.Started.{later_load}
 use Rattle.reclaim_api.specs.declared.following.Reached.{Reached}
 use Rattle.reclaim_api.specs.Following.{holds_at, found_link}
 use Rattle.reclaim_api.specs.Frames.{in_away, SamePart}
-use Rattle.reclaim_api.specs.Holds.{HasSeenTarget, KeepsElse}
+use Rattle.reclaim_api.specs.Holds.{HasSeenTarget, HoldsNothing, KeepsElse}
 use Rattle.reclaim_api.proofs.Reaching.{start_seen, started_later}
 use Rattle.reclaim_api.proofs.Reaching as load
 
@@ -78,6 +79,12 @@ module _ (s : ShapeFacts) (c : CoverFacts) (frozen : FrozenLaws c) {S R : Type 0
     -- it is held there
     pub holds_there : (r : RefParts) → led ≡ Some r → HoldsThere q (record { place = place; target = r })
     holds_there = load.holds_there s c p q o place n led told same began guard_is started seen_by many small goes
+
+    -- and nothing where it leads nowhere
+    pub holds_none : led ≡ None → HoldsNothing place q
+    holds_none none r at =
+        let here : At (view q).own.guard.holds place None = subst (λ (g : Guard). At g.holds place None) (sym (guard_is ∙ ap (λ z. holding began place z) none)) (set_here began.holds place None (let e = many in omega arith)) in
+        let both = sym here ∙ at in cc
 
     -- what is held and known elsewhere stays
     pub keeps_else : KeepsElse place p q

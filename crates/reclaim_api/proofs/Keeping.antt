@@ -3,6 +3,8 @@ use Rattle.std.proofs.Common.{◌≡◌, ◌≢◌, ◌⊎◌, ⊎_elim, ℕ, �
 use native.Mathlib.Decide.{ℕ_discrete}
 use Rattle.set_model.specs.declared.calls.Call.{Call}
 use Rattle.set_model.specs.declared.calls.Update.{Update}
+use Rattle.record_memory.specs.declared.steps.StepKind.{StepKind}
+use Rattle.record_memory.specs.declared.books.LockedWord.{LockedWord}
 use Rattle.record_memory.specs.declared.books.Guard.{Guard}
 use Rattle.record_memory.specs.declared.books.Note.{Note}
 use Rattle.record_memory.specs.declared.books.Setup.{Setup}
@@ -12,7 +14,7 @@ use Rattle.record_rule.specs.Facts.{At, ShapeFacts, CoverFacts, FitsNote}
 use Rattle.record_rule.specs.Guards.{started_if}
 use Rattle.record_rule.specs.Laws.{with_update}
 use Rattle.record_rule.specs.World.{StartsWith}
-use Rattle.record_rule.specs.Links.{Origin, from_root, from_place, near_of, FitsBody, note_in, noting, own_update, LoadedLink, ExchangedLink, PublishedLink, UnlinkedRecord}
+use Rattle.record_rule.specs.Links.{Origin, from_root, from_place, near_of, FitsBody, note_in, noting, own_update, LoadedLink, LeftLink, PublishedBy, UnlinkedBy}
 use Rattle.record_rule.proofs.Rebuilt.{starts_itself, starts_more, starts_then}
 use Rattle.record_table.specs.declared.passes.Pass.{Pass}
 use Rattle.record_table.specs.Handles.{view, since}
@@ -157,14 +159,14 @@ module _ {S R : Type 0} where
           more None = starts_itself updates
           more (Some u) = starts_more updates (u ∷ [])
 
-      pub keeps_exchange : (old new : LinkParts) (call : Option Call) → (view q).setup ≡ (view p).setup → ExchangedLink s (view p) o 3 old new call (view q) → KeepsButLink o p q
+      pub keeps_exchange : {kind : StepKind} {locks : List LockedWord} (old new : LinkParts) (call : Option Call) → (view q).setup ≡ (view p).setup → LeftLink s (view p) kind o 3 old new call locks (view q) → KeepsButLink o p q
       keeps_exchange old new call setup told = keeps_noting _ _ setup (ap (λ (v : View). v.own.guard) told.view) (ap (λ (v : View). v.own.notes) told.view)
           (subst (λ (v : View). StartsWith v.seen_updates (view p).seen_updates) (sym told.view) (seen_then (view p) call told.updates told.whole.seen_updates))
 
-      pub keeps_publish : (old : LinkParts) (own : RefParts) (call : Option Call) → (view q).setup ≡ (view p).setup → PublishedLink s (view p) o 3 old own call (view q) → KeepsButLink o p q
+      pub keeps_publish : {kind : StepKind} {locks : List LockedWord} (old : LinkParts) (own : RefParts) (call : Option Call) → (view q).setup ≡ (view p).setup → PublishedBy s (view p) kind o 3 old own call locks (view q) → KeepsButLink o p q
       keeps_publish old own call setup told = keeps_noting _ _ setup (ap (λ (v : View). v.own.guard) told.view) (ap (λ (v : View). v.own.notes) told.view)
           (subst (λ (v : View). StartsWith v.seen_updates (view p).seen_updates) (sym told.view) (seen_then (view p) call told.updates told.whole.seen_updates))
 
-      pub keeps_unlink : (gone : RefParts) (new : LinkParts) → (view q).setup ≡ (view p).setup → UnlinkedRecord s (view p) o 3 gone new (view q) → KeepsButLink o p q
-      keeps_unlink gone new setup told = keeps_noting _ _ setup (ap (λ (v : View). v.own.guard) told.view) (ap (λ (v : View). v.own.notes) told.view)
+      pub keeps_unlink : {kind : StepKind} {locks : List LockedWord} (old : LinkParts) (gone : RefParts) (new : LinkParts) → (view q).setup ≡ (view p).setup → UnlinkedBy s (view p) kind o 3 old gone new locks (view q) → KeepsButLink o p q
+      keeps_unlink old gone new setup told = keeps_noting _ _ setup (ap (λ (v : View). v.own.guard) told.view) (ap (λ (v : View). v.own.notes) told.view)
           (subst (λ (v : View). StartsWith v.seen_updates (view p).seen_updates) (sym told.view) told.whole.seen_updates)

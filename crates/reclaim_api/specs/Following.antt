@@ -10,7 +10,7 @@ use Rattle.record_rule.specs.Links.{Origin}
 use Rattle.record_table.specs.declared.nodes.Node.{Node}
 use Rattle.record_table.specs.declared.passes.Pass.{Pass}
 use Rattle.record_table.specs.Nodes.{HoldsThere}
-use Rattle.reclaim_api.specs.Holds.{HasSeenTarget}
+use Rattle.reclaim_api.specs.Holds.{HasSeenTarget, HoldsNothing}
 use Rattle.reclaim_api.specs.LinkLoads.{link_load}
 use Rattle.reclaim_api.specs.declared.following.Reached.{Reached}
 use Rattle.reclaim_api.specs.declared.following.Reached.TheVariants.{Null, Held}
@@ -25,9 +25,9 @@ found_link (Null flags) = record { flags = flags; target = None }
 found_link (Held h flags) = record { flags = flags; target = Some h.target }
 
 module _ {S R : Type 0} where
-  -- what it leads to is held at this place
+  -- what it leads to is held at this place, which holds nothing where it leads nowhere
   abbrev pub HoldsReached : ℕ → Reached → Pass S R → Type 0
-  HoldsReached place (Null flags) q = Unit {0}
+  HoldsReached place (Null flags) q = HoldsNothing place q
   HoldsReached place (Held h flags) q = HoldsThere q h × (h.place ≡ place)
 
   -- what an answer shows

@@ -21,18 +21,22 @@ use Rattle.reclaim_api.proofs.Kept.{same_adds}
 use Rattle.record_pieces.specs.Manners.{Manner}
 use Rattle.record_pieces.specs.OwnSteps.{OneStep}
 use Rattle.record_pieces.specs.Giving.{CutsOff, GivesOne, KeepsOne, GivesChains, gave_all, kept_one, gave_one}
-use Rattle.record_pieces.specs.Events.{Event, begun, hopped, keyed, looked, exchanged, published, unlinked, took, refused, stored_own, gave_back, retired, placed, ended, Exchanges, HandsOut, KeepsStock, Gets, from_free, from_pool, from_draw, Takes, from_spare, handed, Does}
+use Rattle.record_pieces.specs.Events.{Event, begun, hopped, followed, keyed, looked, exchanged, published, unlinked, stored_link, published_locked, unlinked_locked, took, refused, stored_own, gave_back, retired, placed, ended, Exchanges, HandsOut, KeepsStock, Gets, from_free, from_pool, from_draw, Takes, from_spare, handed, Does}
 use Rattle.record_pieces.specs.Trails.{Trail}
 
 -- an event that gets no record and gives none back
 abbrev pub Keeps : Event → Type 0
 Keeps begun = Unit {0}
 Keeps (hopped place at f h seen) = Unit {0}
+Keeps (followed place at f r seen) = Unit {0}
 Keeps (keyed r key) = Unit {0}
 Keeps (looked at f link seen) = Unit {0}
 Keeps (exchanged at f expected new call refusal) = Unit {0}
 Keeps (published at f expected own call refusal) = Unit {0}
 Keeps (unlinked at f gone new refusal) = Unit {0}
+Keeps (stored_link at f old new call) = Unit {0}
+Keeps (published_locked at f old own call) = Unit {0}
+Keeps (unlinked_locked at f old gone new) = Unit {0}
 Keeps (took r) = ⊥
 Keeps (refused n) = Unit {0}
 Keeps (stored_own r f payload) = Unit {0}
@@ -101,11 +105,15 @@ module _ (m : Manner) (k : Setup) where
   pub keeps_one : (e : Event) (b c : Book) → Keeps e → Does m k e b c → KeepsStock b c
   keeps_one begun b c keeps d = d.acts.1
   keeps_one (hopped place at f h seen) b c keeps d = d.acts.2
+  keeps_one (followed place at f r seen) b c keeps d = d.acts.2
   keeps_one (keyed r key) b c keeps d = d.acts.1
   keeps_one (looked at f link seen) b c keeps d = d.acts.2
-  keeps_one (exchanged at f expected new call refusal) b c keeps d = d.acts.1
-  keeps_one (published at f expected own call refusal) b c keeps d = d.acts.1
+  keeps_one (exchanged at f expected new call refusal) b c keeps d = d.acts.2
+  keeps_one (published at f expected own call refusal) b c keeps d = d.acts.2
   keeps_one (unlinked at f gone new refusal) b c keeps d = d.acts.1
+  keeps_one (stored_link at f old new call) b c keeps d = d.acts.2
+  keeps_one (published_locked at f old own call) b c keeps d = d.acts.2
+  keeps_one (unlinked_locked at f old gone new) b c keeps d = d.acts.2
   keeps_one (took r) b c keeps d = absurd keeps
   keeps_one (refused n) b c keeps d = d.acts.stock
   keeps_one (stored_own r f payload) b c keeps d = d.acts.1
@@ -151,11 +159,15 @@ module _ (m : Manner) (k : Setup) where
     adds_one : (e : Event) (b c : Book) → Does m k e b c → AddsSteps b c
     adds_one begun b c d = let a = d.acts.0 in adds_both b a.0 c (only.enters b a.0 a.1 a.2) (chains_add a.1 a.0 c a.3)
     adds_one (hopped place at f h seen) b c d = only.reaches b c place at f h d.acts.0
+    adds_one (followed place at f r seen) b c d = one_adds b c _ d.acts.0.steps
     adds_one (keyed r key) b c d = one_adds b c _ d.acts.0.2
     adds_one (looked at f link seen) b c d = one_adds b c _ d.acts.0.2
     adds_one (exchanged at f expected new call refusal) b c d = exchange_adds k at f expected new refusal b c d.acts.0
     adds_one (published at f expected own call refusal) b c d = exchange_adds k at f expected _ refusal b c d.acts.0
     adds_one (unlinked at f gone new refusal) b c d = exchange_adds k at f _ new refusal b c d.acts.0
+    adds_one (stored_link at f old new call) b c d = one_adds b c _ d.acts.0
+    adds_one (published_locked at f old own call) b c d = one_adds b c _ d.acts.0
+    adds_one (unlinked_locked at f old gone new) b c d = one_adds b c _ d.acts.1
     adds_one (took r) b c d = takes_add b r c d.acts
     adds_one (refused n) b c d = adds_both b d.acts.between c (only.takes b d.acts.between false d.acts.took) (only.refuses d.acts.between c n d.acts.refused)
     adds_one (stored_own r f payload) b c d = one_adds b c _ d.acts.0.1

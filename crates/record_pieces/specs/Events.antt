@@ -4,7 +4,7 @@ use Rattle.set_model.specs.declared.calls.Call.{Call}
 use Rattle.record_memory.specs.declared.steps.Step.{Step}
 use Rattle.record_memory.specs.declared.steps.Word.TheVariants.{Field, Drawn}
 use Rattle.record_memory.specs.declared.steps.StepKind.{StepKind}
-use Rattle.record_memory.specs.declared.steps.StepKind.TheVariants.{Load, Exchange}
+use Rattle.record_memory.specs.declared.steps.StepKind.TheVariants.{Load, Store, Exchange}
 use Rattle.record_memory.specs.declared.books.Setup.{Setup}
 use Rattle.record_memory.specs.declared.books.Book.{Book}
 use Rattle.record_memory.specs.declared.books.Share.{Share}
@@ -16,11 +16,13 @@ use Rattle.row_words.specs.declared.links.Freed.{Freed}
 use Rattle.record_rule.specs.Facts.{clean}
 use Rattle.record_rule.specs.Kinds.{idle}
 use Rattle.record_rule.specs.HandingOut.{handed_out}
-use Rattle.record_rule.specs.Links.{index_of, held_at, link_word, read_at}
+use Rattle.record_rule.specs.Links.{index_of, held_at, link_word, entry_for, read_at}
 use Rattle.record_rule.specs.Standings.{is_free, is_spare}
 use Rattle.record_table.specs.declared.nodes.Node.{Node}
 use Rattle.record_table.specs.Nodes.{origin}
 use Rattle.reclaim_api.specs.declared.holding.Holding.{Holding}
+use Rattle.reclaim_api.specs.declared.following.Reached.{Reached}
+use Rattle.reclaim_api.specs.Following.{FollowsByLoad}
 use Rattle.reclaim_api.specs.Frames.{had}
 use Rattle.record_pieces.specs.Hands.{in_hand}
 use Rattle.record_pieces.specs.Spares.{IsSpareIn, KeepsSpares, KeepsSparesBut}
@@ -33,6 +35,8 @@ pub data Event : Type 0 where
   begun : Event
   -- a try to hold: for which place, from which node and word, its answer, and how many updates had taken effect at its last load of the link
   hopped : ℕ → Node → ℕ → Holding → ℕ → Event
+  -- a link that was followed: to which place, from which node and word, its answer, and how many updates had taken effect at its load
+  followed : ℕ → Node → ℕ → Reached → ℕ → Event
   -- the key of a held record
   keyed : RefParts → ℕ → Event
   -- the link in a node's word, and how many updates had taken effect at its load
@@ -43,6 +47,12 @@ pub data Event : Type 0 where
   published : Node → ℕ → LinkParts → RefParts → Option Call → Option LinkParts → Event
   -- the same to take the next record out, from its clean link
   unlinked : Node → ℕ → RefParts → LinkParts → Option LinkParts → Event
+  -- a store in a node's word that its caller has locked: the link that was there, the new one, and the call that it decides
+  stored_link : Node → ℕ → LinkParts → LinkParts → Option Call → Event
+  -- the same to link an own record
+  published_locked : Node → ℕ → LinkParts → RefParts → Option Call → Event
+  -- the same to take the next record out, which the link that was there leads to
+  unlinked_locked : Node → ℕ → LinkParts → RefParts → LinkParts → Event
   -- an own record was got; or none, with what the draw found
   took : RefParts → Event
   refused : ℕ → Event
@@ -64,11 +74,15 @@ one_if_made (Some link) = 0
 abbrev pub gained : Event → ℕ
 gained begun = 0
 gained (hopped p at f h seen) = 0
+gained (followed p at f r seen) = 0
 gained (keyed r key) = 0
 gained (looked at f link seen) = 0
 gained (exchanged at f expected new call refusal) = 0
 gained (published at f expected own call refusal) = 0
 gained (unlinked at f gone new refusal) = one_if_made refusal
+gained (stored_link at f old new call) = 0
+gained (published_locked at f old own call) = 0
+gained (unlinked_locked at f old gone new) = 1
 gained (took r) = 1
 gained (refused n) = 0
 gained (stored_own r f payload) = 0
@@ -81,11 +95,15 @@ gained ended = 0
 abbrev pub dropped : Event → ℕ
 dropped begun = 0
 dropped (hopped p at f h seen) = 0
+dropped (followed p at f r seen) = 0
 dropped (keyed r key) = 0
 dropped (looked at f link seen) = 0
 dropped (exchanged at f expected new call refusal) = 0
 dropped (published at f expected own call refusal) = one_if_made refusal
 dropped (unlinked at f gone new refusal) = 0
+dropped (stored_link at f old new call) = 0
+dropped (published_locked at f old own call) = 1
+dropped (unlinked_locked at f old gone new) = 0
 dropped (took r) = 0
 dropped (refused n) = 0
 dropped (stored_own r f payload) = 0
@@ -98,11 +116,15 @@ dropped ended = 0
 abbrev pub retirements : Event → ℕ
 retirements begun = 0
 retirements (hopped p at f h seen) = 0
+retirements (followed p at f r seen) = 0
 retirements (keyed r key) = 0
 retirements (looked at f link seen) = 0
 retirements (exchanged at f expected new call refusal) = 0
 retirements (published at f expected own call refusal) = 0
 retirements (unlinked at f gone new refusal) = 0
+retirements (stored_link at f old new call) = 0
+retirements (published_locked at f old own call) = 0
+retirements (unlinked_locked at f old gone new) = 0
 retirements (took r) = 0
 retirements (refused n) = 0
 retirements (stored_own r f payload) = 0
@@ -127,6 +149,16 @@ placing_load b n = record { kind = Load; word = Drawn; held = None; found = n; l
 abbrev pub Exchanges : Setup → Node → ℕ → LinkParts → LinkParts → Option LinkParts → Book → Book → Type 0
 Exchanges k at f expected new None b c = OneStep b (node_step b Exchange at f (link_word k (origin at) expected) (link_word k (origin at) new)) c
 Exchanges k at f expected new (Some link) b c = (n : ℕ) × (link ≡ link_in n) × (link ≢ expected) × OneStep b (node_step b Exchange at f n n) c
+
+-- a store in the node's word: it found the one link and left the other
+abbrev pub StoresOver : Setup → Node → ℕ → LinkParts → LinkParts → Book → Book → Type 0
+StoresOver k at f old new b c = OneStep b (node_step b Store at f (link_word k (origin at) old) (link_word k (origin at) new)) c
+
+-- where such a step was made it answered the call that the event names, and no other; where it was refused it answered none
+abbrev pub AnswersCall : Option LinkParts → Option Call → Book → Book → Type 0
+AnswersCall (Some link) call b c = c.answered ≡ b.answered
+AnswersCall None None b c = c.answered ≡ b.answered
+AnswersCall None (Some call) b c = (position : ℕ) × (c.answered ≡ b.answered ++ entry_for position (Some call))
 
 -- the stores of the eight words of a record that is handed out
 abbrev pub HandsOut : RefParts → ℕ → Book → Book → Type 0
@@ -202,11 +234,15 @@ module _ (m : Manner) (k : Setup) where
   abbrev pub Acts : Event → Book → Book → Type 0
   Acts begun b c = ((d : Book) × (f : Freed) × m.enters k b f d × GivesChains m.shelves (m.gives k) f d c) × KeepsStock b c
   Acts (hopped p at f h seen) b c = m.reaches k p at f b h c × (c.updates_seen ≡ seen) × KeepsStock b c
+  Acts (followed p at f r seen) b c = FollowsByLoad at f b r c × (c.updates_seen ≡ seen) × KeepsStock b c
   Acts (keyed r key) b c = ((n : ℕ) × (key ≡ key_in n) × OneStep b (key_load b r n) c) × KeepsStock b c
   Acts (looked at f link seen) b c = ((n : ℕ) × (link ≡ link_in n) × OneStep b (node_step b Load at f n n) c) × (c.updates_seen ≡ seen) × KeepsStock b c
-  Acts (exchanged at f expected new call refusal) b c = Exchanges k at f expected new refusal b c × KeepsStock b c
-  Acts (published at f expected own call refusal) b c = Exchanges k at f expected (clean own) refusal b c × KeepsStock b c
+  Acts (exchanged at f expected new call refusal) b c = Exchanges k at f expected new refusal b c × AnswersCall refusal call b c × KeepsStock b c
+  Acts (published at f expected own call refusal) b c = Exchanges k at f expected (clean own) refusal b c × AnswersCall refusal call b c × KeepsStock b c
   Acts (unlinked at f gone new refusal) b c = Exchanges k at f (clean gone) new refusal b c × KeepsStock b c
+  Acts (stored_link at f old new call) b c = StoresOver k at f old new b c × AnswersCall None call b c × KeepsStock b c
+  Acts (published_locked at f old own call) b c = StoresOver k at f old (clean own) b c × AnswersCall None call b c × KeepsStock b c
+  Acts (unlinked_locked at f old gone new) b c = (old.target ≡ Some gone) × StoresOver k at f old new b c × KeepsStock b c
   Acts (took r) b c = Takes b r c
   Acts (refused n) b c = FindsNone b n c
   Acts (stored_own r f payload) b c = ((found : ℕ) × OneStep b (own_store b r f found (packed_number r.generation payload)) c) × KeepsStock b c

@@ -1,0 +1,8 @@
+use Rattle.std.proofs.Common.{refl, ap}
+use Rattle.record_memory.specs.declared.books.Moves.{Moves}
+use Rattle.record_pieces.proofs.Hands.{hand_left, does_still}
+use Rattle.manager.proofs.Stocks.{stock_left}
+use Rattle.manager.proofs.types.Guard.hold_frozen.Goals as goal
+
+pub returns-clause-did : goal.returns-clause-did
+returns-clause-did g c = let e = c.reach_frozen.ensures in does_still refl refl refl (hand_left _ _ e.rest) (ap (λ (m : Moves). m.retired) e.rest.moves) (e.does, refl, stock_left _ _ e.rest)
