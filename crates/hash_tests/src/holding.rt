@@ -1,7 +1,8 @@
 // What a caller holds while another one works.
 ghost use Rattle.std.specs.Prelude.{◌≡◌, ◌≤◌, All, IfSome};
-ghost use Rattle.record_table.specs.Handles.{IsSamePass};
+ghost use Rattle.record_table.specs.Handles.{view, IsSamePass};
 ghost use Rattle.record_table.specs.Nodes.{HoldsThere};
+ghost use Rattle.manager.specs.Callers.{KeepsLocks};
 ghost use Rattle.manager.specs.Guards.{IsAtWork};
 ghost use Rattle.set_model.specs.Machine.{key_of};
 ghost use Rattle.michael_hash.specs.Callers.{IsWholeCallerOf};
@@ -33,6 +34,7 @@ fn hold_meanwhile<'a, R: Scheme>(
     ensures at_work { IsAtWork guard.new }
     ensures same { (guard.new.caller.ghost_name ≡ guard.old.caller.ghost_name) × (guard.new.manager.now ≡ guard.old.manager.now) }
     ensures pass { IsSamePass guard.old.caller.now.pass guard.new.caller.now.pass }
+    ensures locks { KeepsLocks (view guard.old.caller.now.pass) (view guard.new.caller.now.pass) }
     ensures other { IsWholeCallerOf R.is_local hash.now.lists.manager.table other.new }
 {
     let found = guard.hold(0, Node::Root(0), 3);
@@ -90,6 +92,7 @@ pub(crate) fn hold_while_keys_go<'a, R: Scheme>(
     ensures at_work { IsAtWork guard.new }
     ensures same { (guard.new.caller.ghost_name ≡ guard.old.caller.ghost_name) × (guard.new.manager.now ≡ guard.old.manager.now) }
     ensures pass { IsSamePass guard.old.caller.now.pass guard.new.caller.now.pass }
+    ensures locks { KeepsLocks (view guard.old.caller.now.pass) (view guard.new.caller.now.pass) }
     ensures other { IsWholeCallerOf R.is_local hash.now.lists.manager.table other.new }
 {
     let found = guard.hold(0, Node::Root(0), 3);
@@ -117,6 +120,7 @@ pub(crate) fn hold_three<'a, R: Scheme>(
     ensures at_work { IsAtWork guard.new }
     ensures same { (guard.new.caller.ghost_name ≡ guard.old.caller.ghost_name) × (guard.new.manager.now ≡ guard.old.manager.now) }
     ensures pass { IsSamePass guard.old.caller.now.pass guard.new.caller.now.pass }
+    ensures locks { KeepsLocks (view guard.old.caller.now.pass) (view guard.new.caller.now.pass) }
     ensures held { IfSome result (λ three. HoldsThere guard.new.caller.now.pass three.0 × HoldsThere guard.new.caller.now.pass three.1
         × HoldsThere guard.new.caller.now.pass three.2) }
 {
@@ -143,6 +147,7 @@ pub(crate) fn keys_of_three<'a, R: Scheme>(
     ensures at_work { IsAtWork guard.new }
     ensures same { (guard.new.caller.ghost_name ≡ guard.old.caller.ghost_name) × (guard.new.manager.now ≡ guard.old.manager.now) }
     ensures pass { IsSamePass guard.old.caller.now.pass guard.new.caller.now.pass }
+    ensures locks { KeepsLocks (view guard.old.caller.now.pass) (view guard.new.caller.now.pass) }
 {
     let (first, second, third) = three;
     [

@@ -42,6 +42,7 @@ rest_then u v w a b = record {
   rest = λ i. b.rest i ∙ a.rest i;
   moves = ap (λ (m : Moves). record m { freed = u.own.moves.freed }) b.moves ∙ a.moves;
   answered = b.answered ∙ a.answered;
+  locks = b.locks ∙ a.locks;
   front = b.front ∙ a.front;
 }
 
@@ -51,6 +52,7 @@ module _ (v w : View) (gives : GivesFree v w) where
     rest = gives.rest;
     moves = ap (λ (m : Moves). record m { freed = v.own.moves.freed }) gives.moves;
     answered = ap (λ (x : View). x.own.answered) gives.made.rest;
+    locks = ap (λ (x : View). x.own.locks) gives.made.rest;
     front = ap (λ (x : View). x.front) gives.made.rest;
   }
 

@@ -15,6 +15,7 @@ pub mod Seats
 pub mod Owns
 pub mod StepKeeps
 pub mod Locks
+pub mod KeepLocks
 pub mod MoveCounts
 pub mod ChainCounts
 pub mod Stocks

@@ -123,4 +123,5 @@ rests_still {c = c} is_local p q l free spare n same stays own h = record {
     all = ap (λ (b : Book). idle b) own ∙ h.chains.all;
   };
   counts = subst (AreCounted n) (sym own) h.counts;
+  unlocked = ap (λ (b : Book). b.locks) own ∙ h.unlocked;
 }

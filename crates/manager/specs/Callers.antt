@@ -1,5 +1,5 @@
 -- What clauses say of a caller, inside an operation and outside.
-use Rattle.std.specs.Prelude.{◌≡◌, ◌≢◌, ℕ, ◌+◌, ◌-◌, Bool, false}
+use Rattle.std.specs.Prelude.{◌≡◌, ◌≢◌, ℕ, ◌+◌, ◌-◌, [], Bool, false}
 use Rattle.record_memory.specs.declared.books.View.{View}
 use Rattle.record_memory.specs.declared.books.Standing.TheVariants.{Free, Spare}
 use Rattle.row_words.specs.Refs.{RefParts}
@@ -37,6 +37,8 @@ module _ {S R L : Type 0} (is_local : L → Bool → View → View → Type 0) w
     pub outside : is_inside c.pass ≡ false
     pub chains : Chains c
     pub counts : AreCounted c.moved (view c.pass).own
+    -- no word is locked
+    pub unlocked : (view c.pass).own.locks ≡ []
 
 -- no call was answered, and of no update it is known that it comes before
 pub record AnswersNone (v w : View) : Type 0 where
@@ -50,3 +52,7 @@ KeepsOwn v w = (r : RefParts) → IsOwnOf v r → IsOwnOf w r
 -- but for the one with this index
 abbrev pub KeepsOwnBut : ℕ → View → View → Type 0
 KeepsOwnBut i v w = (r : RefParts) → r.index - 1 ≢ i - 1 → IsOwnOf v r → IsOwnOf w r
+
+-- the same words are locked, with the same values
+abbrev pub KeepsLocks : View → View → Type 0
+KeepsLocks v w = w.own.locks ≡ v.own.locks

@@ -1,5 +1,5 @@
 // A caller begins and ends operations, and tries to hold records.
-ghost use Rattle.std.specs.Prelude.{◌≡◌, ◌<◌};
+ghost use Rattle.std.specs.Prelude.{◌≡◌, ◌<◌, []};
 ghost use Rattle.record_memory.specs.declared.books.Book.{Book};
 ghost use Rattle.row_words.specs.declared.links.Freed.{Freed};
 ghost use Rattle.record_rule.specs.Links.{near_of};
@@ -40,6 +40,7 @@ pub(crate) fn enter<S: Shape, R: Scheme, P: Pool>(table: &Table<S, R>, caller: &
 pub(crate) fn leave<S: Shape, R: Scheme>(table: &Table<S, R>, caller: &mut Caller<S, R>)
     requires of { IsPassOf table.now caller.old.pass }
     requires caller { IsWorking R.is_local caller.old }
+    requires unlocked { (view caller.old.pass).own.locks ≡ [] }
     ensures of { IsPassOf table.now caller.new.pass }
     ensures caller { IsResting R.is_local caller.new }
     ensures pass { Leaves caller.old.pass caller.new.pass }

@@ -6,7 +6,7 @@ ghost use Rattle.row_words.specs.Refs.{LinkParts};
 ghost use Rattle.row_words.specs.Packing.{key_in, link_in, packed_number, IsLink, IsPackedRef};
 ghost use Rattle.record_rule.specs.Facts.{Near, clean};
 ghost use Rattle.record_rule.specs.Kinds.{stored};
-ghost use Rattle.record_rule.specs.Links.{near_of, LoadedKey, LoadedLink, ExchangedLink, PublishedLink, UnlinkedRecord, IsNextOf, Decides, HasTaken};
+ghost use Rattle.record_rule.specs.Links.{near_of, locks_after, LoadedKey, LoadedLink, ExchangedLink, PublishedLink, UnlinkedRecord, IsNextOf, Decides, HasTaken};
 ghost use Rattle.record_rule.specs.LockedLinks.{IsUnlocked};
 ghost use Rattle.record_rule.specs.HandingOut.{HasOwn, IsOwnOf};
 ghost use Rattle.record_rule.specs.Makes.{Makes};
@@ -18,7 +18,7 @@ ghost use Rattle.reclaim_api.specs.Holds.{IsElsewhere, HasReached, KeepsElse, Ke
 ghost use Rattle.record_pieces.specs.Spares.{IsSpareIn};
 ghost use Rattle.record_pieces.specs.Events.{Does, begun, hopped, keyed, looked, exchanged, published, unlinked, stored_own, took, refused, gave_back, retired, placed, ended};
 ghost use Rattle.record_rule.specs.Placing.{placed_view};
-ghost use Rattle.manager.specs.Callers.{IsWorking, IsResting, AnswersNone, KeepsOwn, KeepsOwnBut};
+ghost use Rattle.manager.specs.Callers.{IsWorking, IsResting, AnswersNone, KeepsOwn, KeepsOwnBut, KeepsLocks};
 ghost use Rattle.manager.specs.Guards.{IsAtWork, Did};
 ghost use Rattle.manager.specs.Manners.{manner};
 
@@ -36,7 +36,7 @@ use set_model::Call;
 impl<S: Shape, R: Scheme, A: Allocator, P: Pool> Manager<S, R, A, P> {
     /// Begins an operation of this caller. Records of its limbo may become free; then chains of 32 of its free
     /// records go to the pool, while it has 64 and the pool takes them. The guard must be spent by `finish`, so a
-    /// caller is inside at most one operation.
+    /// caller is inside at most one operation. At first it has no word locked.
     pub fn begin<'a>(&'a self, caller: &'a mut Caller<S, R>) -> Guard<'a, S, R, A, P>
         requires of { IsPassOf self.now.table caller.old.pass }
         requires caller { IsResting R.is_local caller.old }
@@ -45,6 +45,7 @@ impl<S: Shape, R: Scheme, A: Allocator, P: Pool> Manager<S, R, A, P> {
         ensures at_work { IsAtWork result }
         ensures pass { Enters caller.old.pass result.caller.now.pass }
         ensures rest { LeavesRest (view caller.old.pass) (view result.caller.now.pass) }
+        ensures locks { (view result.caller.now.pass).own.locks ≡ [] }
         ensures did { Does (manner R.enters R.leaves R.bears R.reaches R.puts_away A.draws A.refuses P.SHELVES P.busy) (setup_of self.entry.now.table) begun (view caller.old.pass).own (view result.caller.now.pass).own }
     {
         enter::<S, R, P>(&self.table, caller);
@@ -76,6 +77,7 @@ impl<'a, S: Shape, R: Scheme, A: Allocator, P: Pool> Guard<'a, S, R, A, P> {
         ensures keeps { KeepsElse place self.old.caller.now.pass self.new.caller.now.pass }
         ensures answers { AnswersNone (view self.old.caller.now.pass) (view self.new.caller.now.pass) }
         ensures owns { KeepsOwn (view self.old.caller.now.pass) (view self.new.caller.now.pass) }
+        ensures locks { KeepsLocks (view self.old.caller.now.pass) (view self.new.caller.now.pass) }
         ensures did { Did self.old (hopped place from field result (view self.new.caller.now.pass).own.updates_seen) self.new }
     {
         reach(&self.manager.table, self.caller, place, from, field)
@@ -93,6 +95,7 @@ impl<'a, S: Shape, R: Scheme, A: Allocator, P: Pool> Guard<'a, S, R, A, P> {
         ensures keeps { KeepsHeld self.old.caller.now.pass self.new.caller.now.pass }
         ensures answers { AnswersNone (view self.old.caller.now.pass) (view self.new.caller.now.pass) }
         ensures owns { KeepsOwn (view self.old.caller.now.pass) (view self.new.caller.now.pass) }
+        ensures locks { KeepsLocks (view self.old.caller.now.pass) (view self.new.caller.now.pass) }
         ensures own { MatchResult result (λ own. IsOwnOf (view self.new.caller.now.pass) own) (λ _. Unit {0}) }
         ensures did { MatchResult result (λ own. Did self.old (took own) self.new) (λ none. Did self.old (refused none.found) self.new) }
     {
@@ -109,6 +112,7 @@ impl<'a, S: Shape, R: Scheme, A: Allocator, P: Pool> Guard<'a, S, R, A, P> {
         ensures keeps { KeepsHeld self.old.caller.now.pass self.new.caller.now.pass }
         ensures answers { AnswersNone (view self.old.caller.now.pass) (view self.new.caller.now.pass) }
         ensures owns { KeepsOwnBut own.index (view self.old.caller.now.pass) (view self.new.caller.now.pass) }
+        ensures locks { KeepsLocks (view self.old.caller.now.pass) (view self.new.caller.now.pass) }
         ensures spare { IsSpareIn (view self.new.caller.now.pass).own own }
         ensures made { (steps : List Step) × Makes (view self.old.caller.now.pass) (view self.new.caller.now.pass) steps }
         ensures did { Did self.old (gave_back own) self.new }
@@ -127,14 +131,16 @@ impl<'a, S: Shape, R: Scheme, A: Allocator, P: Pool> Guard<'a, S, R, A, P> {
         ensures keeps { KeepsHeld self.old.caller.now.pass self.new.caller.now.pass }
         ensures answers { AnswersNone (view self.old.caller.now.pass) (view self.new.caller.now.pass) }
         ensures owns { KeepsOwn (view self.old.caller.now.pass) (view self.new.caller.now.pass) }
+        ensures locks { KeepsLocks (view self.old.caller.now.pass) (view self.new.caller.now.pass) }
         ensures did { Did self.old (retired taken) self.new }
     {
         put_away::<S, R, P>(&self.manager.table, self.caller, taken);
     }
 
-    /// Ends the operation. Its caller holds nothing afterwards.
+    /// Ends the operation. Its caller has no word locked, and holds nothing afterwards.
     pub fn finish(self)
         requires at_work { IsAtWork self }
+        requires unlocked { (view self.caller.now.pass).own.locks ≡ [] }
         ensures of { IsPassOf self.entry.manager.now.table self.exit.0.now.pass }
         ensures caller { IsResting R.is_local self.exit.0.now }
         ensures pass { Leaves self.entry.caller.now.pass self.exit.0.now.pass }
@@ -157,6 +163,7 @@ impl<'a, S: Shape, R: Scheme, A: Allocator, P: Pool> Guard<'a, S, R, A, P> {
         ensures keeps { KeepsHeld self.old.caller.now.pass self.new.caller.now.pass }
         ensures answers { AnswersNone (view self.old.caller.now.pass) (view self.new.caller.now.pass) }
         ensures owns { KeepsOwn (view self.old.caller.now.pass) (view self.new.caller.now.pass) }
+        ensures locks { KeepsLocks (view self.old.caller.now.pass) (view self.new.caller.now.pass) }
         ensures step { (n : ℕ) × (result ≡ key_in n) × LoadedKey (view self.old.caller.now.pass) node.place node.target n (view self.new.caller.now.pass) }
         ensures did { Did self.old (keyed node.target result) self.new }
     {
@@ -176,6 +183,7 @@ impl<'a, S: Shape, R: Scheme, A: Allocator, P: Pool> Guard<'a, S, R, A, P> {
         ensures keeps { KeepsHeld self.old.caller.now.pass self.new.caller.now.pass }
         ensures answers { AnswersNone (view self.old.caller.now.pass) (view self.new.caller.now.pass) }
         ensures owns { KeepsOwn (view self.old.caller.now.pass) (view self.new.caller.now.pass) }
+        ensures locks { KeepsLocks (view self.old.caller.now.pass) (view self.new.caller.now.pass) }
         ensures step { (n : ℕ) × (result ≡ link_in n) × LoadedLink S.facts R.facts (view self.old.caller.now.pass) (origin node) 3 (is_first self.old.caller.now.pass) n (view self.new.caller.now.pass) }
         ensures did { Did self.old (looked node 3 result (view self.new.caller.now.pass).own.updates_seen) self.new }
     {
@@ -207,6 +215,7 @@ impl<'a, S: Shape, R: Scheme, A: Allocator, P: Pool> Guard<'a, S, R, A, P> {
         ensures keeps { MatchResult result (λ _. KeepsButLink (origin node) self.old.caller.now.pass self.new.caller.now.pass) (λ _. KeepsHeld self.old.caller.now.pass self.new.caller.now.pass) }
         ensures answers { MatchResult result (λ _. decides ≡ None → AnswersNone (view self.old.caller.now.pass) (view self.new.caller.now.pass)) (λ _. AnswersNone (view self.old.caller.now.pass) (view self.new.caller.now.pass)) }
         ensures owns { KeepsOwn (view self.old.caller.now.pass) (view self.new.caller.now.pass) }
+        ensures locks { MatchResult result (λ _. (view self.new.caller.now.pass).own.locks ≡ locks_after S.facts (view self.old.caller.now.pass) (origin node) 3 new) (λ _. KeepsLocks (view self.old.caller.now.pass) (view self.new.caller.now.pass)) }
         ensures step { MatchResult result
             (λ _. ExchangedLink S.facts (view self.old.caller.now.pass) (origin node) 3 expected new decides (view self.new.caller.now.pass))
             (λ found. IsRefused (view self.old.caller.now.pass) (origin node) expected found.link (view self.new.caller.now.pass)) }
@@ -248,6 +257,7 @@ impl<'a, S: Shape, R: Scheme, A: Allocator, P: Pool> Guard<'a, S, R, A, P> {
         ensures keeps { MatchResult result (λ _. KeepsButLink (origin node) self.old.caller.now.pass self.new.caller.now.pass) (λ _. KeepsHeld self.old.caller.now.pass self.new.caller.now.pass) }
         ensures answers { MatchResult result (λ _. decides ≡ None → AnswersNone (view self.old.caller.now.pass) (view self.new.caller.now.pass)) (λ _. AnswersNone (view self.old.caller.now.pass) (view self.new.caller.now.pass)) }
         ensures owns { MatchResult result (λ _. KeepsOwnBut own.index (view self.old.caller.now.pass) (view self.new.caller.now.pass)) (λ _. KeepsOwn (view self.old.caller.now.pass) (view self.new.caller.now.pass)) }
+        ensures locks { KeepsLocks (view self.old.caller.now.pass) (view self.new.caller.now.pass) }
         ensures step { MatchResult result
             (λ _. PublishedLink S.facts (view self.old.caller.now.pass) (origin node) 3 expected own decides (view self.new.caller.now.pass))
             (λ back. (back.0 ≡ own) × IsRefused (view self.old.caller.now.pass) (origin node) expected back.1.link (view self.new.caller.now.pass)) }
@@ -286,6 +296,7 @@ impl<'a, S: Shape, R: Scheme, A: Allocator, P: Pool> Guard<'a, S, R, A, P> {
         ensures keeps { MatchResult result (λ _. KeepsButLink (origin node) self.old.caller.now.pass self.new.caller.now.pass) (λ _. KeepsHeld self.old.caller.now.pass self.new.caller.now.pass) }
         ensures answers { AnswersNone (view self.old.caller.now.pass) (view self.new.caller.now.pass) }
         ensures owns { KeepsOwn (view self.old.caller.now.pass) (view self.new.caller.now.pass) }
+        ensures locks { KeepsLocks (view self.old.caller.now.pass) (view self.new.caller.now.pass) }
         ensures step { MatchResult result
             (λ taken. (taken ≡ gone.target) × UnlinkedRecord S.facts (view self.old.caller.now.pass) (origin node) 3 gone.target new (view self.new.caller.now.pass))
             (λ found. IsRefused (view self.old.caller.now.pass) (origin node) (clean gone.target) found.link (view self.new.caller.now.pass)) }
@@ -309,6 +320,7 @@ impl<'a, S: Shape, R: Scheme, A: Allocator, P: Pool> Guard<'a, S, R, A, P> {
         ensures pass { IsSamePass self.old.caller.now.pass self.new.caller.now.pass }
         ensures keeps { KeepsHeld self.old.caller.now.pass self.new.caller.now.pass }
         ensures owns { KeepsOwn (view self.old.caller.now.pass) (view self.new.caller.now.pass) }
+        ensures locks { KeepsLocks (view self.old.caller.now.pass) (view self.new.caller.now.pass) }
         ensures step { (found : ℕ) × (view self.new.caller.now.pass ≡ placed_view (view self.old.caller.now.pass) 0 found position call reply) }
         ensures did { Did self.old (placed call reply position) self.new }
     {
@@ -331,6 +343,7 @@ impl<'a, S: Shape, R: Scheme, A: Allocator, P: Pool> Guard<'a, S, R, A, P> {
         ensures keeps { KeepsHeld self.old.caller.now.pass self.new.caller.now.pass }
         ensures answers { AnswersNone (view self.old.caller.now.pass) (view self.new.caller.now.pass) }
         ensures owns { KeepsOwn (view self.old.caller.now.pass) (view self.new.caller.now.pass) }
+        ensures locks { KeepsLocks (view self.old.caller.now.pass) (view self.new.caller.now.pass) }
         ensures step { view self.new.caller.now.pass ≡ stored (view self.old.caller.now.pass) own.old.index word (packed_number own.old.generation payload) }
         ensures did { Did self.old (stored_own own.old word payload) self.new }
     {

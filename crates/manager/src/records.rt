@@ -18,7 +18,7 @@ ghost use Rattle.record_pieces.specs.Events.{HandsOut, KeepsStock, CountsBirth, 
 ghost use Rattle.pool.specs.Calls.{Takes};
 ghost use Rattle.pool.specs.declared.Taken.TheVariants.{Some as Took, None as FoundNone};
 ghost use Rattle.manager.specs.Manners.{gives_by, manner};
-ghost use Rattle.manager.specs.Callers.{IsWorking, AnswersNone, KeepsOwn, KeepsOwnBut};
+ghost use Rattle.manager.specs.Callers.{IsWorking, AnswersNone, KeepsOwn, KeepsOwnBut, KeepsLocks};
 
 use crate::counting::raised;
 use crate::giving::give_chains;
@@ -42,6 +42,7 @@ fn take_spare<S: Shape, R: Scheme>(table: &Table<S, R>, caller: &mut Caller<S, R
     ensures own { IfSome result (λ own. IsOwnOf (view caller.new.pass) own) }
     ensures keeps { IfSome result (λ _. KeepsHeld caller.old.pass caller.new.pass) }
     ensures answers { IfSome result (λ _. AnswersNone (view caller.old.pass) (view caller.new.pass)) }
+    ensures locks { KeepsLocks (view caller.old.pass) (view caller.new.pass) }
     ensures does { IfSome result (λ own. (d : Book) × (birth : ℕ) × (n : ℕ) × R.bears (setup_of table.now) (view caller.old.pass).own birth d × OneStep d (own_load d own 1 n) (view caller.new.pass).own) }
     ensures stock { IfSome result (λ own. TakesSpare (view caller.old.pass).own own (view caller.new.pass).own) }
     ensures retired { IfSome result (λ _. (view caller.new.pass).own.moves.retired ≡ (view caller.old.pass).own.moves.retired) }
@@ -92,6 +93,7 @@ pub(crate) fn put_away<S: Shape, R: Scheme, P: Pool>(
     ensures pass { IsSamePass caller.old.pass caller.new.pass }
     ensures keeps { KeepsHeld caller.old.pass caller.new.pass }
     ensures answers { AnswersNone (view caller.old.pass) (view caller.new.pass) }
+    ensures locks { KeepsLocks (view caller.old.pass) (view caller.new.pass) }
     ensures owns { KeepsOwn (view caller.old.pass) (view caller.new.pass) }
     ensures stock { KeepsStock (view caller.old.pass).own (view caller.new.pass).own }
     ensures retired { (view caller.new.pass).own.moves.retired ≡ (view caller.old.pass).own.moves.retired + 1 }
@@ -195,6 +197,7 @@ fn hand_out<S: Shape, R: Scheme>(table: &Table<S, R>, caller: &mut Caller<S, R>,
     ensures pass { IsSamePass caller.old.pass caller.new.pass }
     ensures keeps { KeepsHeld caller.old.pass caller.new.pass }
     ensures answers { AnswersNone (view caller.old.pass) (view caller.new.pass) }
+    ensures locks { KeepsLocks (view caller.old.pass) (view caller.new.pass) }
     ensures owns { KeepsOwn (view caller.old.pass) (view caller.new.pass) }
     ensures stock { (had is_spare (view caller.new.pass).own ≡ had is_spare (view caller.old.pass).own) × CountsBirth (view caller.old.pass).own (view caller.new.pass).own }
     ensures retired { (view caller.new.pass).own.moves.retired ≡ (view caller.old.pass).own.moves.retired }
@@ -254,6 +257,7 @@ pub(crate) fn fresh<S: Shape, R: Scheme, A: Allocator, P: Pool>(
     ensures pass { IsSamePass caller.old.pass caller.new.pass }
     ensures keeps { KeepsHeld caller.old.pass caller.new.pass }
     ensures answers { AnswersNone (view caller.old.pass) (view caller.new.pass) }
+    ensures locks { KeepsLocks (view caller.old.pass) (view caller.new.pass) }
     ensures owns { KeepsOwn (view caller.old.pass) (view caller.new.pass) }
     ensures own { MatchResult result (λ own. IsOwnOf (view caller.new.pass) own) (λ _. Unit {0}) }
     ensures did { MatchResult result

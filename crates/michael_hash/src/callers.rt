@@ -1,5 +1,5 @@
 // What its callers do beside the three calls: they hold records, are counted, meet, and end the table.
-ghost use Rattle.std.specs.Prelude.{◌≡◌, ◌<◌, ◌⊎◌, All, map};
+ghost use Rattle.std.specs.Prelude.{◌≡◌, ◌<◌, ◌⊎◌, [], All, map};
 ghost use Rattle.record_memory.specs.declared.books.Book.{Book};
 ghost use Rattle.row_words.specs.declared.links.Freed.{Freed};
 ghost use Rattle.record_rule.specs.World.{StartsWith};
@@ -47,6 +47,7 @@ impl<R: Scheme, A: Allocator, P: Pool> MichaelHash<R, A, P> {
         ensures at_work { IsAtWork result }
         ensures pass { Enters caller.old.pass result.caller.now.pass }
         ensures rest { LeavesRest (view caller.old.pass) (view result.caller.now.pass) }
+        ensures locks { (view result.caller.now.pass).own.locks ≡ [] }
         ensures did { (d : Book) × (f : Freed) × R.enters (setup_of self.entry.now.lists.manager.table) (view caller.old.pass).own f d
             × GivesChains P.SHELVES (gives_by P.SHELVES P.busy (setup_of self.entry.now.lists.manager.table)) f d (view result.caller.now.pass).own }
     {

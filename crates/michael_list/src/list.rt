@@ -175,6 +175,7 @@ impl<R: Scheme, A: Allocator, P: Pool> MichaelList<R, A, P> {
         ensures at_work { IsAtWork result }
         ensures pass { Enters caller.old.pass result.caller.now.pass }
         ensures rest { LeavesRest (view caller.old.pass) (view result.caller.now.pass) }
+        ensures locks { (view result.caller.now.pass).own.locks ≡ [] }
         ensures did { (d : Book) × (f : Freed) × R.enters (setup_of self.entry.now.manager.table) (view caller.old.pass).own f d
             × GivesChains P.SHELVES (gives_by P.SHELVES P.busy (setup_of self.entry.now.manager.table)) f d (view result.caller.now.pass).own }
     {

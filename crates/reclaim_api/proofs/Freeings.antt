@@ -50,6 +50,7 @@ module _ (may : LimboRecord → Bool) (v u w : View) (left : LeftLimbo may v u) 
     rest = λ i. s.rest i ∙ l.rest i;
     moves = ap (λ (m : Moves). record m { freed = v.own.moves.freed }) (still_moves u w still) ∙ l.moves;
     answered = s.answered ∙ l.answered;
+    locks = s.locks ∙ l.locks;
     front = s.front ∙ l.front;
   }
 

@@ -134,6 +134,7 @@ module _ (v : View) (r : RefParts) (share : Share) (value : ℕ) (taken : HasTak
     gone = ap in_rest (get_or-set_same v.own.mine (r.index - 1) (Some (retired_share share value)) None (known_within v.own.mine (r.index - 1) share taken.known));
     moves = refl;
     answered = refl;
+    locks = refl;
     front = refl;
   }
 

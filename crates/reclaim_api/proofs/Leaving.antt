@@ -147,6 +147,7 @@ module _ (c : CoverFacts) (v : View) (word n : ℕ) (w : View) (told : LoadedCon
     mine = ap (λ (x : View). x.own.mine) told.view;
     moves = ap (λ (x : View). x.own.moves) told.view;
     answered = ap (λ (x : View). x.own.answered) told.view;
+    locks = ap (λ (x : View). x.own.locks) told.view;
     front = ap (λ (x : View). x.front) told.view;
   }
 
@@ -165,6 +166,7 @@ module _ (may : LimboRecord → Bool) (v w : View) (h : LeftLimbo may v w) where
     rest = λ i. ap in_rest (share_left i) ∙ rest_one may (i - 1) (share_in v i);
     moves = ap (λ (m : Moves). record m { freed = v.own.moves.freed }) h.moves;
     answered = h.answered;
+    locks = h.locks;
     front = h.front;
   }
 

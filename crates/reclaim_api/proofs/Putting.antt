@@ -46,6 +46,7 @@ module _ (v u w : View) where
     gone = b.rest i ∙ a.gone;
     moves = over w.own.moves u.own.moves b.moves ∙ a.moves;
     answered = b.answered ∙ a.answered;
+    locks = b.locks ∙ a.locks;
     front = b.front ∙ a.front;
   }
     where

@@ -107,7 +107,7 @@ module _ (order : ℕ → ℕ) where
       pub loads_last : length words + 1 ≡ many → v.own.guard.loaded ≡ [] → LoadsAll order frees v more w
       loads_last end calm = record {
         steps = ap (λ (y : View). y.own.steps) told.view ∙ steps_are;
-        left = subst (λ (may : LimboRecord → Bool). LeftLimbo may v w) (λ k r. frees_by true scanned r k) (let l = left_limbo c then place n w told in record { setup = l.setup; mine = l.mine; moves = l.moves; answered = l.answered; front = l.front });
+        left = subst (λ (may : LimboRecord → Bool). LeftLimbo may v w) (λ k r. frees_by true scanned r k) (let l = left_limbo c then place n w told in record { setup = l.setup; mine = l.mine; moves = l.moves; answered = l.answered; locks = l.locks; front = l.front });
         guard = ap (λ (y : View). y.own.guard) told.view ∙ guard_by true scanned ∙ (λ k. record v.own.guard { loaded = sym calm k });
         notes = ap (λ (y : View). y.own.notes) told.view;
         seen = ap (λ (y : View). y.seen_updates) told.view;

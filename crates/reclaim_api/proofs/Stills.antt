@@ -160,6 +160,7 @@ module _ (v w : View) (h : IsStill v w) where
     rest = λ i. sym (rest_quiet (share_in w i)) ∙ ap in_rest (still_entry (i - 1)) ∙ rest_quiet (share_in v i);
     moves = ap (λ (m : Moves). record m { freed = v.own.moves.freed }) still_moves;
     answered = still_answered;
+    locks = ap (λ (x : View). x.own.locks) h.rest;
     front = still_front;
   }
 

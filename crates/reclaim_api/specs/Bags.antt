@@ -37,6 +37,7 @@ pub record LeftLimbo (may : LimboRecord → Bool) (v w : View) : Type 0 where
   pub mine : w.own.mine ≡ freed_from may 0 v.own.mine
   pub moves : w.own.moves ≡ freed_more v.own.moves (bag_count may v.own)
   pub answered : w.own.answered ≡ v.own.answered
+  pub locks : w.own.locks ≡ v.own.locks
   pub front : w.front ≡ v.front
 
 -- of the records that left limbo these stand in front of the free ones, and all others are spent

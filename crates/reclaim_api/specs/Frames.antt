@@ -58,11 +58,12 @@ abbrev pub in_rest : Option Share → Option Share
 in_rest None = None
 in_rest (Some h) = rest_as h h.standing
 
--- of the records that aren't in limbo, free or spent, and of its answered calls, the caller knows the same, and of moves it made none but those that freed records
+-- of the records that aren't in limbo, free or spent, of its answered calls, and of the words that it has locked, the caller knows the same, and of moves it made none but those that freed records
 pub record LeavesRest (v w : View) : Type 0 where
   pub rest : (i : ℕ) → in_rest (share_in w i) ≡ in_rest (share_in v i)
   pub moves : record w.own.moves { freed = v.own.moves.freed } ≡ v.own.moves
   pub answered : w.own.answered ≡ v.own.answered
+  pub locks : w.own.locks ≡ v.own.locks
   pub front : w.front ≡ v.front
 
 -- the same but for the record with this index, which was retired and is in limbo, free or spent now
@@ -71,13 +72,15 @@ pub record LeavesRestBut (i : ℕ) (v w : View) : Type 0 where
   pub gone : in_rest (share_in w i) ≡ None
   pub moves : record w.own.moves { freed = v.own.moves.freed } ≡ retired_one v.own.moves
   pub answered : w.own.answered ≡ v.own.answered
+  pub locks : w.own.locks ≡ v.own.locks
   pub front : w.front ≡ v.front
 
--- of each record, and of its answered calls, the caller knows the same, and it made no move of a record
+-- of each record, of its answered calls, and of the words that it has locked, the caller knows the same, and it made no move of a record
 pub record LeavesRecords (v w : View) : Type 0 where
   pub mine : w.own.mine ≡ v.own.mine
   pub moves : w.own.moves ≡ v.own.moves
   pub answered : w.own.answered ≡ v.own.answered
+  pub locks : w.own.locks ≡ v.own.locks
   pub front : w.front ≡ v.front
 
 -- steps were added to those that the caller made

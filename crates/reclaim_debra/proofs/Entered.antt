@@ -37,6 +37,7 @@ records_rest v w r = record {
   rest = λ i. ap (λ (l : List (Option Share)). in_rest (get_or l (i - 1) None)) r.mine;
   moves = ap (λ (m : Moves). record m { freed = v.own.moves.freed }) r.moves;
   answered = r.answered;
+  locks = r.locks;
   front = r.front;
 }
 
@@ -64,7 +65,7 @@ frees_then v u w before after f h r = record {
 }
 
 pub records_then : (v u w : View) → LeavesRecords v u → LeavesRecords u w → LeavesRecords v w
-records_then v u w a b = record { mine = b.mine ∙ a.mine; moves = b.moves ∙ a.moves; answered = b.answered ∙ a.answered; front = b.front ∙ a.front }
+records_then v u w a b = record { mine = b.mine ∙ a.mine; moves = b.moves ∙ a.moves; answered = b.answered ∙ a.answered; locks = b.locks ∙ a.locks; front = b.front ∙ a.front }
 
 -- What the steps say depends on how many are idle, on the readings and on what is known of each record
 shifts_then : (b c d : Book) (e : ℕ) (made : List Step) (f : Freed) → d.mine ≡ c.mine → d.guard.readings ≡ c.guard.readings → ShiftsIfNew b e made f c → ShiftsIfNew b e made f d

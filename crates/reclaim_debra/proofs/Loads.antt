@@ -69,7 +69,7 @@ pub bags_at : (l : Bags) (v w : View) (g : Guard) (t : Step) → w ≡ record v 
 bags_at l v w g t is readings b = subst (KeepsBags (record l { place = g.scan_place })) (sym is) (bags_stay l v (record v { own = record (with_step v.own v.setup.records t) { guard = g } }) g.scan_place refl (λ i h known q. known) (λ u. refl) readings refl b)
 
 pub records_at : (v w : View) (g : Guard) (t : Step) → w ≡ record v { own = record (with_step v.own v.setup.records t) { guard = g } } → LeavesRecords v w
-records_at v w g t is = subst (LeavesRecords v) (sym is) record { mine = refl; moves = refl; answered = refl; front = refl }
+records_at v w g t is = subst (LeavesRecords v) (sym is) record { mine = refl; moves = refl; answered = refl; locks = refl; front = refl }
 
 -- No announcement was there to look at
 pub looked_none : (setup : Setup) (l : Bags) (v : View) (e : ℕ) → KeepsBags l v → setup.callers ≤ l.place → HasLooked setup v e l.place l.place v

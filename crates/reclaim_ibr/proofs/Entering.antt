@@ -32,6 +32,7 @@ records_rest v w r = record {
   rest = λ i. ap (λ (l : List (Option Share)). in_rest (get_or l (i - 1) None)) r.mine;
   moves = ap (λ (m : Moves). record m { freed = v.own.moves.freed }) r.moves;
   answered = r.answered;
+  locks = r.locks;
   front = r.front;
 }
 
@@ -60,6 +61,7 @@ module _ (v u x w : View) (e upper : ℕ) (read : HasRead v e u) (raised : x ≡
     mine = r.mine ∙ ap (λ (y : View). y.own.mine) then_is;
     moves = r.moves ∙ ap (λ (y : View). y.own.moves) then_is;
     answered = r.answered ∙ ap (λ (y : View). y.own.answered) then_is;
+    locks = r.locks ∙ ap (λ (y : View). y.own.locks) then_is;
     front = r.front ∙ ap (λ (y : View). y.front) then_is;
   }
 

@@ -37,6 +37,7 @@ module _ (v t u : View) (r : RefParts) (e : ℕ) (read : LeavesRecords v t) (kep
     gone = a.gone;
     moves = subst (λ (m : Moves). record u.own.moves { freed = m.freed } ≡ retired_one m) read.moves a.moves;
     answered = a.answered ∙ read.answered;
+    locks = a.locks ∙ read.locks;
     front = a.front ∙ read.front;
   }
 

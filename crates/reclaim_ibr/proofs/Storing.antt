@@ -28,6 +28,7 @@ guard_begins v w e found some told = record {
     mine = ap (λ (x : View). x.own.mine) view_is;
     moves = ap (λ (x : View). x.own.moves) view_is;
     answered = ap (λ (x : View). x.own.answered) view_is;
+    locks = ap (λ (x : View). x.own.locks) view_is;
     front = ap (λ (x : View). x.front) view_is;
   };
 }

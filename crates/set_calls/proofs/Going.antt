@@ -19,13 +19,14 @@ use Rattle.set_calls.specs.Going.{IsSameGuard, GoesOn}
 
 module _ {S R L A P : Type 0} {r : OfScheme R L} {a : OfAllocator A} {p : OfPool P} where
   pub same_guard : (g : Guard S R A P L r a p) → IsSameGuard g g
-  same_guard g = record { manager = refl; caller = refl; pass = same_start g.caller.now.pass }
+  same_guard g = record { manager = refl; caller = refl; pass = same_start g.caller.now.pass; locks = refl }
 
   pub same_guards : (f g h : Guard S R A P L r a p) → IsSameGuard f g → IsSameGuard g h → IsSameGuard f h
   same_guards f g h x y = record {
     manager = y.manager ∙ x.manager;
     caller = y.caller ∙ x.caller;
     pass = same_then f.caller.now.pass g.caller.now.pass h.caller.now.pass x.pass y.pass;
+    locks = y.locks ∙ x.locks;
   }
 
   pub goes_nowhere : (g : Guard S R A P L r a p) → GoesOn g g

@@ -17,6 +17,7 @@ returns-clause-caller g c = let f = c.requires.fresh.2 in let v = view c.args.pa
     all = let i = fresh_idle _ _ _ v f in let a = c.new.ensures.count in let b = c.new-2.ensures.count in omega arith;
   };
   counts = fresh_counted _ _ _ v f;
+  unlocked = ap (λ (b : Book). b.locks) f.own;
 }
 
 pub local-local-requires-clause-caller : goal.local-local-requires-clause-caller

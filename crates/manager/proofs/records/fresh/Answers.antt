@@ -10,6 +10,7 @@ use Rattle.reclaim_api.proofs.Keeping.{held_then}
 use Rattle.manager.specs.Manners.{manner}
 use Rattle.manager.proofs.Stay.{keeps_after}
 use Rattle.manager.proofs.Stocks.{no_spare}
+use Rattle.manager.proofs.KeepLocks.{makes_locks}
 use Rattle.manager.proofs.records.fresh.Goals as goal
 
 pub returns-in-Some-clause-did : goal.returns-in-Some-clause-did
@@ -32,3 +33,9 @@ pub returns-clause-keeps : goal.returns-clause-keeps
 returns-clause-keeps g c = let m = c.take_next.ensures.made in
     subst (λ x. KeepsHeld x.pass c.hand_out.new.caller.pass) c.in_default.ensures.none.0 (held_then c.take_spare.new.caller.pass c.take_next.new.caller.pass c.hand_out.new.caller.pass
     (keeps_after c.take_spare.new.caller.pass c.take_next.new.caller.pass c.take_next.ensures.pass m.0 m.1) c.hand_out.ensures.keeps)
+
+pub returns-in_err-r-clause-locks : goal.returns-in_err-r-clause-locks
+returns-in_err-r-clause-locks g c = makes_locks _ _ _ c.take_next.ensures.made.1 ∙ c.take_spare.ensures.locks
+
+pub returns-clause-locks : goal.returns-clause-locks
+returns-clause-locks g c = c.hand_out.ensures.locks ∙ makes_locks _ _ _ c.take_next.ensures.made.1 ∙ c.take_spare.ensures.locks

@@ -18,6 +18,7 @@ use Rattle.manager.proofs.MoveCounts.{same_moves, counted_still}
 use Rattle.manager.proofs.Stocks.{spares_kept}
 use Rattle.reclaim_api.proofs.Keeping.{held_then}
 use Rattle.manager.proofs.Owns.{owns_mine, owns_stay}
+use Rattle.manager.proofs.KeepLocks.{makes_locks}
 use Rattle.manager.proofs.records.hand_out.Goals as goal
 
 pub hand_out-requires-clause-drawn : goal.hand_out-requires-clause-drawn
@@ -69,3 +70,6 @@ returns-clause-retired g c = (handed_moves (view c.birth-birth.new.pass) (view c
 
 pub returns-clause-hand : goal.returns-clause-hand
 returns-clause-hand g c = let b = c.birth-birth.new in handed_hand (view b.pass) (view c.hand_out.new.pass) c.args.r c.birth-birth.result (drawn g c) c.hand_out.ensures.steps ∙ hand_left (view c.args.caller.now.pass) (view b.pass) c.birth-birth.ensures.rest
+
+pub returns-clause-locks : goal.returns-clause-locks
+returns-clause-locks g c = makes_locks _ _ _ (made g c).1 ∙ c.birth-birth.ensures.rest.locks

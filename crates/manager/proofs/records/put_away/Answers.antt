@@ -12,6 +12,7 @@ use Rattle.record_pieces.proofs.Hands.{hand_rest_but}
 use Rattle.manager.proofs.Stay.{chains_freed, keeps_after}
 use Rattle.manager.proofs.FreeGivings.{gives_rest, gives_owns, gives_hand}
 use Rattle.manager.proofs.Stocks.{stays_kept, spares_kept}
+use Rattle.manager.proofs.KeepLocks.{makes_locks}
 use Rattle.manager.proofs.records.put_away.Goals as goal
 
 pub give_chains-requires-clause-caller : goal.give_chains-requires-clause-caller
@@ -59,3 +60,6 @@ returns-clause-hand g c = ap (λ (n : ℕ). n + 1) (gives_hand (view c.put_away-
 
 pub returns-clause-does : goal.returns-clause-does
 returns-clause-does g c = ((view c.put_away-left.new.pass).own, c.put_away-left.result, c.put_away-left.ensures.does, c.give_chains.ensures.did)
+
+pub returns-clause-locks : goal.returns-clause-locks
+returns-clause-locks g c = let f = c.give_chains.ensures.free in makes_locks _ _ f.steps f.made ∙ c.put_away-left.ensures.rest.locks

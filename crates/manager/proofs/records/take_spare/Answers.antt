@@ -22,6 +22,7 @@ use Rattle.manager.proofs.MoveCounts.{same_moves, counted_still}
 use Rattle.manager.proofs.Stocks.{stays_kept, spares_in}
 use Rattle.manager.proofs.Owns.{owns_mine}
 use Rattle.manager.proofs.Takings.{spare_as, first_spare, taken_makes, taken_limbo, taken_moves, taken_births, taken_was, taken_kept, taken_free, taken_owns, taken_hand, taken_rest}
+use Rattle.manager.proofs.KeepLocks.{makes_locks}
 use Rattle.manager.proofs.records.take_spare.Goals as goal
 
 -- the chains are lists still once the birth was answered
@@ -110,3 +111,6 @@ pub returns-clause-hand : goal.returns-clause-hand
 returns-clause-hand g c = let a = c.args.caller.now in let v : View = view c.birth-birth.new.pass in let w : View = view c.take_spare-own.new.pass in let t = took g c in
     let after : Chain = record { head = c.take_spare-own.result.1; count = a.spare.count - 1 } in
     taken_hand v w a.spare after c.in_ok-first.first (lists g c).spares c.in_ok-first.was t.number t.step t.next refl ∙ ap (λ (n : ℕ). n + 1) (hand_left (view a.pass) v c.birth-birth.ensures.rest)
+
+pub returns-clause-locks : goal.returns-clause-locks
+returns-clause-locks g c = makes_locks _ _ _ (made g c) ∙ c.birth-birth.ensures.rest.locks
