@@ -22,7 +22,10 @@ locked_with link = record link { flags = 2 }
 abbrev pub unlocked : LinkParts → LinkParts
 unlocked link = record link { flags = 0 }
 
--- a locked link to this record, or to none
+-- a link without flags to this record, or to none, and a locked one
+abbrev pub link_to : Option RefParts → LinkParts
+link_to target = record { flags = 0; target = target }
+
 abbrev pub locked_to : Option RefParts → LinkParts
 locked_to target = record { flags = 2; target = target }
 

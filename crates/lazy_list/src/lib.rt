@@ -8,8 +8,10 @@
 
 mod locking;
 mod shape;
+mod spots;
 mod updating;
 
 pub use locking::{lock, unlock};
 pub use shape::LazyShape;
+pub use spots::Spot;
 pub use updating::{link_locked, mark_locked, take_out_locked};
