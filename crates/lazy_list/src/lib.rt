@@ -1,0 +1,17 @@
+//! The lazy list over a record manager: a sorted linked list of keys for each root, whose updates lock links, and whose
+//! walks lock nothing and pass marked records (Heller, Herlihy, Luchangco, Moir, Scherer and Shavit, "A lazy concurrent
+//! list-based set algorithm", OPODIS 2005). These are the pieces of its calls, for a caller that is inside a guard.
+//!
+//! A caller waits for no lock: it tries to lock a link by one exchange, and where the link was another, or was locked, it
+//! changed nothing. What it has locked it alone changes, and each such step takes the lock off.
+#![tactic(auto)]
+
+mod locking;
+mod shape;
+mod spots;
+mod updating;
+
+pub use locking::{lock, unlock};
+pub use shape::LazyShape;
+pub use spots::Spot;
+pub use updating::{link_locked, mark_locked, take_out_locked};
