@@ -20,6 +20,12 @@ marked_near fits s _ i generation m start body (is_root j e k b at) mark late = 
 marked_near fits s _ i generation m start body (is_linked j e k b note at known) mark late = still generation at mark
 marked_near fits s _ i generation m start body (is_out j e k n b note at known) mark late = gone generation n at (late n e k b at)
 
+-- and no root
+no_root : {flags : ℕ → Type 0} {setup : Setup} {x : ShapeInput} → ListFits flags setup x → (s : ShapeFacts) (near : Near) (i generation m : ℕ) (body : List ℕ) → FitsNear s x.cells near i generation body m → HasMark (link_at body 3) → root_at s near ≡ None
+no_root fits s _ i generation m body (is_root j e k b at) mark = absurd ((fits.sorted i _ at).1 mark)
+no_root fits s _ i generation m body (is_linked j e k b note at known) mark = refl
+no_root fits s _ i generation m body (is_out j e k n b note at known) mark = refl
+
 -- what a load sees of a link's target is there
 seen_is : {s : ShapeFacts} {cells : List ShapeCell} {o : Option RefParts} {target : Option (List ℕ)} → TargetSeen s cells o target → (t : RefParts) (b : List ℕ) → o ≡ Some t → target ≡ Some b → IsSeen cells t b
 seen_is no_target t b e is = let none : ⊥ = cc in absurd none
@@ -59,6 +65,7 @@ module _ {setup : Setup} {x : ShapeInput} {h : Trace} (fits : LazyFits setup x) 
   pub lazy_shows : LazyShown setup (record { node = root_at s near; body = n.body; field = f; target = target; marked = n.marked; start = start }) h.updates
   lazy_shows = record {
     list = shows fits.lists told.list n seen start;
+    is_record = λ mark. no_root fits.lists s near n.index n.generation n.marked n.body n.fits mark;
     up = λ mark field b is. marked_up mark field b is;
     marked = λ mark. told.list.marks n.index n.marked n.body (marked_once mark);
     within = λ mark. (absent mark).within;

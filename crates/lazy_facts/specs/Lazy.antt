@@ -48,6 +48,8 @@ MayTurn setup near f old new call = MayLock f old new call ⊎ (MayUnlock f old 
 
 pub record LazyShown (setup : Setup) (y : Sight) (updates : List Update) : Type 0 where
   pub list : ListShown lazy_flags setup y updates
+  -- a marked node is a record
+  pub is_record : HasMark (link_at y.body 3) → y.node ≡ None
   -- what a marked link leads to stands in the same list, behind the node
   pub up : HasMark (link_at y.body 3) → y.field ≡ 3 → (b : List ℕ) → y.target ≡ Some b → (key_at b % setup.roots ≡ key_at y.body % setup.roots) × (key_at y.body < key_at b)
   -- a marked node has the position, from 1, of the removal that marked it
