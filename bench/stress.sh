@@ -4,9 +4,9 @@
 # 4 and 16 callers, on few records more than there are keys, so that most insertions use a record again; `stress.sh hazard`
 # as many with hazard pointers, where each caller may keep six records for each caller, and `stress.sh 2geibr` as many under
 # 2GEIBR, where it may keep sixteen. `stress.sh debra shelves`, and so for the other two, plays 200 in which half of the
-# callers only insert and the others only remove, so that records come back by the pool's shelves alone. Sizes, seeds,
-# phases, buckets and records vary with the workload's number, and each run of this script plays the same ones. README.md,
-# beside this file, says more.
+# callers only insert and the others only remove, so that records come back by the pool's shelves, but for those that a caller
+# takes out which inserts and meets a mark. Sizes, seeds, phases, buckets and records vary with the workload's number, and each
+# run of this script plays the same ones. README.md, beside this file, says more.
 #
 # It prints what it judged, and ends with status 1 at the first report that is refused, whose workload, words and report
 # it keeps and names. It wants bash, awk and rustc, and `rt` in PATH where the proved program has to be built.
