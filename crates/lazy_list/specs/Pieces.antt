@@ -19,16 +19,16 @@ use Rattle.lazy_list.specs.Locking.{locked_with, unlocked, link_to, locked_to}
 use Rattle.lazy_list.specs.Walks.{Finds}
 
 -- a link with these flags is marked or locked, as a walk found it
-abbrev pub IsTaken : ℕ → Type 0
-IsTaken flags = ¬ (flags ≡ 0)
+abbrev pub HasFlags : ℕ → Type 0
+HasFlags flags = ¬ (flags ≡ 0)
 
 -- a try to lock a node's link, which had no flags and led there; it was another where it was refused
-abbrev pub locks : Node → Option RefParts → Option LinkParts → List Event
-locks node target refusal = exchanged node 3 (link_to target) (locked_to target) None refusal ∷ []
+abbrev pub tries_lock : Node → Option RefParts → Option LinkParts → List Event
+tries_lock node target refusal = exchanged node 3 (link_to target) (locked_to target) None refusal ∷ []
 
 -- that lock is taken off
-abbrev pub unlocks : Node → Option RefParts → List Event
-unlocks node target = stored_link node 3 (locked_to target) (link_to target) None ∷ []
+abbrev pub takes_lock_off : Node → Option RefParts → List Event
+takes_lock_off node target = stored_link node 3 (locked_to target) (link_to target) None ∷ []
 
 -- the record is filled, and linked behind a node whose link was locked
 abbrev pub links_locked : ℕ → Node → Option Held → RefParts → List Event
@@ -47,10 +47,10 @@ module _ (root key : ℕ) where
   pub data FailsToInsert (own : Option RefParts) : Option RefParts → ℕ → List Event → Type 0 where
     is_marked : {hops seen flags : ℕ} {before : Node} {at : Held} {fs : List Event} (link : LinkParts) (then : ℕ) → Finds key root hops (Some (Present before flags at)) (Some seen) fs → HasMark link
         → FailsToInsert own own hops (fs ++ looked (At at) 3 link then ∷ [])
-    is_taken : {hops seen flags : ℕ} {hand : Option RefParts} {r : RefParts} {before : Node} {next : Option Held} {fs gs : List Event} → Finds key root hops (Some (Absent before flags next)) (Some seen) fs → HasRecord r hand gs → own ≡ Some r → IsTaken flags
+    is_taken : {hops seen flags : ℕ} {hand : Option RefParts} {r : RefParts} {before : Node} {next : Option Held} {fs gs : List Event} → Finds key root hops (Some (Absent before flags next)) (Some seen) fs → HasRecord r hand gs → own ≡ Some r → HasFlags flags
         → FailsToInsert own hand hops (fs ++ gs)
-    is_late : {hops seen flags : ℕ} {hand : Option RefParts} {r : RefParts} {before : Node} {next : Option Held} {fs gs : List Event} (other : LinkParts) → Finds key root hops (Some (Absent before flags next)) (Some seen) fs → HasRecord r hand gs → own ≡ Some r
-        → FailsToInsert own hand hops (fs ++ gs ++ locks before (target_of next) (Some other))
+    is_late : {hops seen : ℕ} {hand : Option RefParts} {r : RefParts} {before : Node} {next : Option Held} {fs gs : List Event} (other : LinkParts) → Finds key root hops (Some (Absent before 0 next)) (Some seen) fs → HasRecord r hand gs → own ≡ Some r
+        → FailsToInsert own hand hops (fs ++ gs ++ tries_lock before (target_of next) (Some other))
 
   -- tries that failed, after so many hops, and the own record that the call has from them
   pub data Insertings : ℕ → Option RefParts → List Event → Type 0 where
@@ -59,14 +59,14 @@ module _ (root key : ℕ) where
 
   -- a try of a removal that failed
   pub data FailsToRemove : ℕ → List Event → Type 0 where
-    -- the predecessor's link is marked or locked, or the record's is locked
-    is_taken : {hops seen flags : ℕ} {before : Node} {at : Held} {fs : List Event} (link : LinkParts) (then : ℕ) → Finds key root hops (Some (Present before flags at)) (Some seen) fs → IsTaken flags → FailsToRemove hops (fs ++ looked (At at) 3 link then ∷ [])
-    has_lock : {hops seen flags : ℕ} {before : Node} {at : Held} {fs : List Event} (link : LinkParts) (then : ℕ) → Finds key root hops (Some (Present before flags at)) (Some seen) fs → HasLock link → FailsToRemove hops (fs ++ looked (At at) 3 link then ∷ [])
+    -- the record isn't marked, and its predecessor's link is marked or locked; or that has no flags, and the record's is locked
+    is_taken : {hops seen flags : ℕ} {before : Node} {at : Held} {fs : List Event} (link : LinkParts) (then : ℕ) → Finds key root hops (Some (Present before flags at)) (Some seen) fs → HasFlags flags → ¬ HasMark link → FailsToRemove hops (fs ++ looked (At at) 3 link then ∷ [])
+    is_locked : {hops seen : ℕ} {before : Node} {at : Held} {fs : List Event} (link : LinkParts) (then : ℕ) → Finds key root hops (Some (Present before 0 at)) (Some seen) fs → HasLock link → ¬ HasMark link → FailsToRemove hops (fs ++ looked (At at) 3 link then ∷ [])
     -- the predecessor's wasn't the same any more; or the record's, and then the predecessor's lock is taken off
-    is_late : {hops seen flags : ℕ} {before : Node} {at : Held} {fs : List Event} (other link : LinkParts) (then : ℕ) → Finds key root hops (Some (Present before flags at)) (Some seen) fs
-        → FailsToRemove hops (fs ++ looked (At at) 3 link then ∷ [] ++ locks before (Some at.target) (Some other))
-    is_second : {hops seen flags : ℕ} {before : Node} {at : Held} {fs : List Event} (other link : LinkParts) (then : ℕ) → Finds key root hops (Some (Present before flags at)) (Some seen) fs
-        → FailsToRemove hops (fs ++ looked (At at) 3 link then ∷ [] ++ locks before (Some at.target) None ++ locks (At at) link.target (Some other) ++ unlocks before (Some at.target))
+    is_late : {hops seen : ℕ} {before : Node} {at : Held} {fs : List Event} (other link : LinkParts) (then : ℕ) → Finds key root hops (Some (Present before 0 at)) (Some seen) fs → link.flags ≡ 0
+        → FailsToRemove hops (fs ++ looked (At at) 3 link then ∷ [] ++ tries_lock before (Some at.target) (Some other))
+    is_second : {hops seen : ℕ} {before : Node} {at : Held} {fs : List Event} (other link : LinkParts) (then : ℕ) → Finds key root hops (Some (Present before 0 at)) (Some seen) fs → link.flags ≡ 0
+        → FailsToRemove hops (fs ++ looked (At at) 3 link then ∷ [] ++ tries_lock before (Some at.target) None ++ tries_lock (At at) link.target (Some other) ++ takes_lock_off before (Some at.target))
 
   pub data Removings : ℕ → List Event → Type 0 where
     none : Removings 0 []
@@ -75,7 +75,7 @@ module _ (root key : ℕ) where
   -- an insertion within this budget of hops
   pub data Inserts (budget : ℕ) : InsertAnswer → List Event → Type 0 where
     adds : {made hops seen : ℕ} {hand : Option RefParts} {own : RefParts} {before : Node} {next : Option Held} {es fs gs : List Event} → Insertings made hand es → Finds key root hops (Some (Absent before 0 next)) (Some seen) fs → HasRecord own hand gs
-        → made + hops ≤ budget → Inserts budget (Done true) (es ++ fs ++ gs ++ locks before (target_of next) None ++ links_locked key before next own)
+        → made + hops ≤ budget → Inserts budget (Done true) (es ++ fs ++ gs ++ tries_lock before (target_of next) None ++ links_locked key before next own)
     has_it : {made hops seen flags : ℕ} {hand : Option RefParts} {before : Node} {at : Held} {es fs : List Event} (link : LinkParts) (then : ℕ) → Insertings made hand es → Finds key root hops (Some (Present before flags at)) (Some seen) fs → ¬ HasMark link
         → made + hops ≤ budget → Inserts budget (Done false) (es ++ fs ++ looked (At at) 3 link then ∷ [] ++ back hand ++ placed (Insert key) false then ∷ [])
     is_full : {made hops seen flags found : ℕ} {before : Node} {next : Option Held} {es fs : List Event} → Insertings made None es → Finds key root hops (Some (Absent before flags next)) (Some seen) fs
@@ -92,7 +92,7 @@ module _ (root key : ℕ) where
   pub data Removes (budget : ℕ) : LookAnswer → List Event → Type 0 where
     takes_away : {made hops seen : ℕ} {before : Node} {at : Held} {es fs : List Event} (link : LinkParts) (then : ℕ) → Removings made es → Finds key root hops (Some (Present before 0 at)) (Some seen) fs → link.flags ≡ 0
         → made + hops ≤ budget
-        → Removes budget (Looked true) (es ++ fs ++ looked (At at) 3 link then ∷ [] ++ locks before (Some at.target) None ++ locks (At at) link.target None ++ marks_locked key at link ++ takes_out_locked before at (unlocked link))
+        → Removes budget (Looked true) (es ++ fs ++ looked (At at) 3 link then ∷ [] ++ tries_lock before (Some at.target) None ++ tries_lock (At at) link.target None ++ marks_locked key at link ++ takes_out_locked before at (unlocked link))
     lacks_it : {made hops shown : ℕ} {es fs : List Event} → Removings made es → Lacks hops shown fs → made + hops ≤ budget → Removes budget (Looked false) (es ++ fs ++ placed (Remove key) false shown ∷ [])
     again : {made hops : ℕ} {es fs : List Event} → Removings made es → Finds key root hops None None fs → made + hops ≡ budget → Removes budget (LookAgain budget) (es ++ fs)
 
