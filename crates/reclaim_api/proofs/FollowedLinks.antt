@@ -1,5 +1,5 @@
 -- What a caller holds and knows once it followed a link, under a reclaimer by which it then holds at once what the link leads to.
-use Rattle.std.proofs.Common.{◌≡◌, ℕ, ◌+◌, ◌<◌, ◌≤◌, length, get_or, Bool, true, false, ◌&&◌, sym, ap, ◌∙◌, subst, refl, arith, Option, Some, None}
+use Rattle.std.proofs.Common.{◌≡◌, ℕ, ◌+◌, ◌<◌, ◌≤◌, length, length-append, get_or, Bool, true, false, ◌&&◌, sym, ap, ◌∙◌, subst, refl, arith, Option, Some, None}
 use Rattle.std.proofs.lemmas.Bool.{and_right}
 use Rattle.std.proofs.lemmas.List.{length-map}
 use Rattle.atomic_table.proofs.Lists.{set_here}
@@ -10,6 +10,7 @@ use Rattle.row_words.specs.Packing.{link_in}
 use Rattle.record_rule.specs.Facts.{At, Moment, ShapeFacts, CoverFacts}
 use Rattle.record_rule.specs.Guards.{nothing_at, started_if, holding}
 use Rattle.record_rule.specs.Frozen.{FrozenLaws}
+use Rattle.record_rule.specs.Inputs.{start_of}
 use Rattle.record_rule.specs.Links.{Origin}
 use Rattle.record_rule.specs.FrozenLinks.{FollowedLink}
 use Rattle.record_table.specs.declared.passes.Pass.{Pass}
@@ -17,7 +18,7 @@ use Rattle.record_table.specs.Handles.{view, since, is_inside}
 use Rattle.record_table.specs.Nodes.{HasStarted, HoldsThere, is_first, reach_at}
 use Rattle.record_table.proofs.Started.{later_load}
 use Rattle.reclaim_api.specs.declared.following.Reached.{Reached}
-use Rattle.reclaim_api.specs.Following.{holds_at, found_link}
+use Rattle.reclaim_api.specs.Following.{holds_at, found_link, HoldsReached, HasFollowed}
 use Rattle.reclaim_api.specs.Frames.{in_away, SamePart}
 use Rattle.reclaim_api.specs.Holds.{HasSeenTarget, HoldsNothing, KeepsElse}
 use Rattle.reclaim_api.proofs.Reaching.{start_seen, started_later}
@@ -72,9 +73,10 @@ module _ (s : ShapeFacts) (c : CoverFacts) (frozen : FrozenLaws c) {S R : Type 0
   goes h = ap (λ (b : Bool). started_if b time (view p).own.guard step) (and_right c.begins_loading (is_first p) (later_load p h))
 
   module _ (small : place < c.places) where
-    -- what was seen
-    pub has_seen : (r : Reached) → link_in n ≡ found_link r → HasSeenTarget s place o p q (found_link r).target (found_link r)
-    has_seen r e = subst (λ (z : Option RefParts). HasSeenTarget s place o p q z (found_link r)) (ap (λ (l : LinkParts). l.target) e) (load.has_seen s c p q o place n led told same began guard_is started seen_by many small goes (found_link r) e)
+    -- what was seen, by the start that the pass knew
+    pub has_seen : (r : Reached) → link_in n ≡ found_link r → (seen : HasSeenTarget s place o p q (found_link r).target (found_link r)) × (start_of seen.at_load.own.guard ≡ start_of (view p).own.guard)
+    has_seen r e = subst (λ (z : Option RefParts). (seen : HasSeenTarget s place o p q z (found_link r)) × (start_of seen.at_load.own.guard ≡ start_of (view p).own.guard)) (ap (λ (l : LinkParts). l.target) e)
+        (load.has_seen_from s c p q o place n led told same began guard_is started seen_by many small goes (found_link r) e)
 
     -- it is held there
     pub holds_there : (r : RefParts) → led ≡ Some r → HoldsThere q (record { place = place; target = r })
@@ -90,6 +92,14 @@ module _ (s : ShapeFacts) (c : CoverFacts) (frozen : FrozenLaws c) {S R : Type 0
     pub keeps_else : KeepsElse place p q
     keeps_else = load.keeps_else s c p q o place n led told same began guard_is started seen_by many small goes
 
+  -- it made one step more
+  steps_are : length (view q).own.steps ≡ step
+  steps_are = ap (λ (v : View). length v.own.steps) told.view ∙ length-append (view p).own.steps _
+
+  -- which found no fewer updates than it knew to come before
+  front_known : length (view p).front ≤ length (view q).seen_updates
+  front_known = let n = ap length told.whole.front.1 in let l = length-append (view p).front told.whole.front.0 in omega arith
+
   -- a local part is the caller's own still, where that depends on nothing that it holds
   pub local_then : {L : Type 0} (is_local : L → Bool → View → View → Type 0) (l : L) (inside : Bool) → is_inside p ≡ true → inside ≡ true → ((k : L) (b : Bool) (x v w : View) → SamePart c v w → is_local k b x v → is_local k b x w)
       → ((k : L) (x v : View) (place : ℕ) (t : Option RefParts) → is_local k true x v → is_local k true x (holds_at v place t)) → is_local l (is_inside p) (since p) (view p) → is_local l inside (since q) (view q)
@@ -97,7 +107,9 @@ module _ (s : ShapeFacts) (c : CoverFacts) (frozen : FrozenLaws c) {S R : Type 0
       let part : SamePart c (view p) u = record {
         setup = ap (λ (v : View). v.setup) told.view;
         caller = ap (λ (v : View). v.own.caller) told.view;
-        guard = record { first = is_first p; moment = time; step = step; guard = refl };
+        guard = record { first = is_first p; moment = time; step = step; guard = refl; made = omega (arith, steps_are); behind = front_known };
+        steps = omega (arith, steps_are);
+        front = omega (arith, ap (λ (v : View). length v.front) told.view);
         away = λ i. ap (λ (v : View). in_away (get_or v.own.mine i None)) told.view;
         retired = ap (λ (v : View). v.own.moves.retired) told.view;
         births = ap (λ (v : View). v.own.moves.births) told.view;
@@ -105,3 +117,14 @@ module _ (s : ShapeFacts) (c : CoverFacts) (frozen : FrozenLaws c) {S R : Type 0
       let before = subst (λ (b : Bool). is_local l b (since p) (view p)) is h in let held = holds l (since p) u place led (stays l true (since p) (view p) u part before) in
       let now : is_local l true (since p) (view q) = subst (λ (g : Guard). is_local l true (since p) (record (view q) { own = record (view q).own { guard = g } })) (sym guard_is) held in
       subst (λ (z : Bool × View). is_local l z.0 z.1 (view q)) (λ k. (sym then k, sym same k)) now
+
+  -- what an answer shows, once it is held there
+  pub has_followed : {L : Type 0} (is_local : L → Bool → View → View → Type 0) (l : L) → is_inside p ≡ true → ((k : L) (b : Bool) (x v w : View) → SamePart c v w → is_local k b x v → is_local k b x w)
+      → ((k : L) (x v : View) (at : ℕ) (t : Option RefParts) → is_local k true x v → is_local k true x (holds_at v at t)) → ((k : L) (x v : View) → is_local k true x v → length x.own.steps < v.own.guard.start_step → length x.front ≤ v.own.guard.start_updates)
+      → is_local l (is_inside p) (since p) (view p) → place < c.places → (r : Reached) → link_in n ≡ found_link r → HoldsReached place r q → HasFollowed s place o p r q
+  has_followed is_local l is stays holds starts h small r e held = let saw = has_seen small r e in record {
+    holds = held;
+    seen = saw.0;
+    start = saw.1;
+    behind = subst (λ (v : View). length v.front ≤ (view q).own.guard.start_updates) same (starts l (since q) (view q) (local_then is_local l true is refl stays holds h) saw.0.started);
+  }

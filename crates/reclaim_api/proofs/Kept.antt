@@ -1,5 +1,5 @@
 -- Chains that stay the same lists, and records that stay.
-use Rattle.std.proofs.Common.{arith, Bool, true, false, ◌&&◌, ◌≡◌, ◌≢◌, ℕ, ◌+◌, ◌-◌, ◌≤◌, [], append-nil, get_or, get_or-set_same, get_or-set_other, sym, refl, ap, ◌∙◌, subst, Option, Some, None}
+use Rattle.std.proofs.Common.{arith, Bool, true, false, ◌&&◌, ◌≡◌, ◌≢◌, ℕ, ◌+◌, ◌-◌, ◌≤◌, [], length, append-nil, get_or, get_or-set_same, get_or-set_other, sym, refl, ap, ◌∙◌, subst, Option, Some, None}
 use native.Mathlib.Decide.{ℕ_discrete}
 use Rattle.std.proofs.lemmas.List.Elements.{All-weaker}
 use Rattle.record_memory.specs.declared.books.Book.{Book}
@@ -160,10 +160,10 @@ kept_on f keeps true m g step = keeps m g step
 kept_on f keeps false m g step = refl
 
 -- a guard that is the same goes on
-pub goes_on : (c : CoverFacts) (g h : Guard) → h ≡ g → GoesOn c g h
-goes_on c g h e = record { first = false; moment = record { epoch = 0; taken_out = 0; updates = 0 }; step = 0; guard = e ∙ sym (unstarted c.begins_loading) }
+pub goes_on : (c : CoverFacts) (v w : View) → w.own.guard ≡ v.own.guard → GoesOn c v w
+goes_on c v w e = record { first = false; moment = record { epoch = 0; taken_out = 0; updates = length v.front }; step = 0; guard = e ∙ sym (unstarted c.begins_loading); made = omega arith; behind = omega arith }
   where
-    unstarted : (b : Bool) → started_if (b && false) (record { epoch = 0; taken_out = 0; updates = 0 }) g 0 ≡ g
+    unstarted : (b : Bool) → started_if (b && false) (record { epoch = 0; taken_out = 0; updates = length v.front }) v.own.guard 0 ≡ v.own.guard
     unstarted true = refl
     unstarted false = refl
 

@@ -12,6 +12,7 @@ use Rattle.row_words.specs.Refs.{RefParts, LinkParts}
 use Rattle.row_words.specs.Packing.{link_in}
 use Rattle.record_rule.specs.Facts.{At, mark_bit, Moment, Reach, ShapeFacts, CoverFacts}
 use Rattle.record_rule.specs.Guards.{started_if, holding}
+use Rattle.record_rule.specs.Inputs.{start_of}
 use Rattle.record_rule.specs.Laws.{HasReached}
 use Rattle.record_rule.specs.Opening.{no_note}
 use Rattle.record_rule.specs.Links.{Origin, target_of, note_in, note_of, ReachedTarget}
@@ -98,6 +99,11 @@ module _ (s : ShapeFacts) (c : CoverFacts) {S R : Type 0} (p q : Pass S R) (o : 
     started = has_started;
     since_start = subst (λ (g : Guard). g.start_updates ≤ length (view q).seen_updates) (sym guard_is) seen_since;
   }
+
+  -- by the start that the pass knew
+  pub has_seen_from : (link : LinkParts) → link_in n ≡ link → (seen : HasSeenTarget s place o p q t link) × (start_of seen.at_load.own.guard ≡ start_of (view p).own.guard)
+  unfolding has_seen
+  has_seen_from link e = (has_seen link e, refl)
 
   -- it is held there
   pub holds_there : (r : RefParts) → t ≡ Some r → HoldsThere q (record { place = place; target = r })

@@ -1,8 +1,7 @@
 -- What a reclaimer's calls leave as it was.
-use Rattle.std.specs.Prelude.{◌≡◌, ◌≢◌, ℕ, ◌+◌, ◌-◌, ◌&&◌, slice_index_or, count_by, List, ◌++◌, Bool, false, Option, Some, None}
+use Rattle.std.specs.Prelude.{◌≡◌, ◌≢◌, ℕ, ◌+◌, ◌-◌, ◌≤◌, ◌&&◌, slice_index_or, count_by, List, ◌++◌, length, Bool, false, Option, Some, None}
 use Rattle.record_memory.specs.declared.steps.Step.{Step}
 use Rattle.record_memory.specs.declared.books.Book.{Book}
-use Rattle.record_memory.specs.declared.books.Guard.{Guard}
 use Rattle.record_memory.specs.declared.books.View.{View}
 use Rattle.record_memory.specs.declared.books.Share.{Share}
 use Rattle.record_memory.specs.declared.books.Standing.{Standing}
@@ -28,18 +27,23 @@ abbrev pub in_away : Option Share → Option Share
 in_away None = None
 in_away (Some h) = away_as h h.standing
 
--- the guard is the same, or started with a load of a link, where the reclaimer has guards start so
-pub record GoesOn (c : CoverFacts) (g h : Guard) : Type 0 where
+-- the guard is the same, or started with a load of a link, where the reclaimer has guards start so: by a step that was made, and behind what the caller knew to come before
+pub record GoesOn (c : CoverFacts) (v w : View) : Type 0 where
   pub first : Bool
   pub moment : Moment
   pub step : ℕ
-  pub guard : h ≡ started_if (c.begins_loading && first) moment g step
+  pub guard : w.own.guard ≡ started_if (c.begins_loading && first) moment v.own.guard step
+  pub made : step ≤ length w.own.steps
+  pub behind : length v.front ≤ moment.updates
 
 -- all that a reclaimer's local part depends on is the same, but that the guard may have started
 pub record SamePart (c : CoverFacts) (v w : View) : Type 0 where
   pub setup : w.setup ≡ v.setup
   pub caller : w.own.caller ≡ v.own.caller
-  pub guard : GoesOn c v.own.guard w.own.guard
+  pub guard : GoesOn c v w
+  -- it made no fewer steps, and knows no less to come before
+  pub steps : length v.own.steps ≤ length w.own.steps
+  pub front : length v.front ≤ length w.front
   pub away : (i : ℕ) → in_away (slice_index_or w.own.mine i None) ≡ in_away (slice_index_or v.own.mine i None)
   pub retired : w.own.moves.retired ≡ v.own.moves.retired
   pub births : w.own.moves.births ≡ v.own.moves.births

@@ -32,7 +32,7 @@ pub enum Reached {
 /// A reclaimer under which a caller holds by one load what a link leads to, be the link's record marked
 /// or taken out. It has no function of its own: these laws tie its local part to such loads.
 pub trait Follows: Scheme + CoversFrozen {
-    ghost use Rattle.std.specs.Prelude.{◌≡◌, ℕ, ◌<◌, Option, false, true, length};
+    ghost use Rattle.std.specs.Prelude.{◌≡◌, ℕ, ◌<◌, ◌≤◌, Option, false, true, length};
     ghost use Rattle.record_memory.specs.declared.books.View.{View};
     ghost use Rattle.row_words.specs.Refs.{RefParts};
     ghost use Rattle.record_rule.specs.Facts.{Reach};
@@ -43,6 +43,9 @@ pub trait Follows: Scheme + CoversFrozen {
 
     // Its guard has started, unless guards start with loads of links.
     ghost has_started: { (l : Self.Local) (s v : View) → Self.is_local l true s v → Self.facts.begins_loading ≡ false → length s.own.steps < v.own.guard.start_step };
+
+    // A guard that started did so behind all that its caller knew to come before when the operation began.
+    ghost starts_behind: { (l : Self.Local) (s v : View) → Self.is_local l true s v → length s.own.steps < v.own.guard.start_step → length s.front ≤ v.own.guard.start_updates };
 
     // And its local part is its own whatever it holds.
     ghost local_holds: { (l : Self.Local) (s v : View) (place : ℕ) (t : Option RefParts) → Self.is_local l true s v → Self.is_local l true s (holds_at v place t) };

@@ -1,5 +1,5 @@
 -- What a caller under DEBRA holds once it loaded a link: its guard started when it announced itself.
-use Rattle.std.proofs.Common.{◌≡◌, ℕ, ◌-◌, ◌<◌, length, get_or, Bool, true, refl, sym, ap, ◌∙◌, subst, Option, Some, None}
+use Rattle.std.proofs.Common.{◌≡◌, ℕ, ◌-◌, ◌<◌, ◌≤◌, length, get_or, Bool, true, refl, sym, ap, ◌∙◌, subst, Option, Some, None}
 use Rattle.record_memory.specs.declared.books.View.{View}
 use Rattle.row_words.specs.Refs.{RefParts, LinkParts}
 use Rattle.row_words.specs.Packing.{link_in}
@@ -34,6 +34,7 @@ module _ (s : ShapeFacts) {S R : Type 0} (p q : Pass S R) (o : Origin) (place n 
     guarded = subst (λ (x : Bool). IsGuarded x (since q) (view q)) (sym then) record {
       active = ap (λ (v : View). v.own.guard.active) told.view ∙ active.active;
       started = subst (λ (x : View × ℕ). length x.0.own.steps < x.1) (λ k. (sym same k, (ap (λ (v : View). v.own.guard.start_step) (sym told.view)) k)) active.started;
+      front = subst (λ (x : View × ℕ). length x.0.front ≤ x.1) (λ k. (sym same k, (ap (λ (v : View). v.own.guard.start_updates) (sym told.view)) k)) active.front;
       counted = subst (λ (v : View). v.own.caller < v.setup.callers) (sym told.view) active.counted;
     };
   }

@@ -1,5 +1,5 @@
 -- A store of the own announcement, and an exchange of the epoch, leave all records.
-use Rattle.std.proofs.Common.{◌≡◌, ℕ, ◌+◌, ◌*◌, ◌<◌, ◌%◌, [], ◌∷◌, length, Bool, true, false, sym, refl, ap, ◌∙◌, subst, arith, inl}
+use Rattle.std.proofs.Common.{◌≡◌, ℕ, ◌+◌, ◌*◌, ◌<◌, ◌%◌, ◌≤◌, [], ◌∷◌, length, length-append, Bool, true, false, sym, refl, ap, ◌∙◌, subst, arith, inl}
 use Rattle.std.specs.Prelude.{MatchResult, Result}
 use Rattle.std.proofs.lemmas.Bool.{ne_eqb}
 use Rattle.record_memory.specs.declared.steps.StepKind.TheVariants.{Exchange}
@@ -49,3 +49,8 @@ module _ (v w : View) (value found : ℕ) (told : StoredWord debra v 0 value fou
   -- an even one ends it
   pub store_quiet : (r : ℕ) → value ≡ 2 * r → w.own.guard.active ≡ false
   store_quiet r is = ap (λ (x : View). x.own.guard.active) told.view ∙ ap (λ (b : Bool). (then b).own.guard.active) (ne_eqb (value % 2) 1 (λ e. omega arith))
+
+  -- an odd one starts one, behind the caller's front
+  pub store_front : starts_by v.own.guard 0 value ≡ true → length v.front ≤ w.own.guard.start_updates
+  store_front starts = let e : w.own.guard.start_updates ≡ told.moment.updates = ap (λ (x : View). x.own.guard.start_updates) told.view ∙ ap (λ (b : Bool). (then b).own.guard.start_updates) starts in
+      let n = ap length told.whole.front.1 in let l = length-append v.front told.whole.front.0 in let m = told.updates_is in omega arith

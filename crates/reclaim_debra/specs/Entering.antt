@@ -53,5 +53,6 @@ pub record HasAnnounced (v : View) (e : ℕ) (w : View) : Type 0 where
   pub steps : w.own.steps ≡ v.own.steps ++ word_store v.own 0 (2 * e + 1) announced ∷ []
   pub active : w.own.guard.active ≡ true
   pub start : w.own.guard.start_step ≡ length v.own.steps + 1
+  pub front : length v.front ≤ w.own.guard.start_updates
   pub place : w.own.guard.scan_place ≡ v.own.guard.scan_place
   pub readings : w.own.guard.readings ≡ v.own.guard.readings

@@ -44,6 +44,8 @@ pub record KeepsBags (l : Bags) (v : View) : Type 0 where
 pub record IsActive (since v : View) : Type 0 where
   pub active : v.own.guard.active ≡ true
   pub started : length since.own.steps < v.own.guard.start_step
+  -- behind all that it knew to come before
+  pub front : length since.front ≤ v.own.guard.start_updates
   -- its announcement is one of the table's
   pub counted : v.own.caller < v.setup.callers
 

@@ -1,5 +1,5 @@
 -- A local part depends on the caller's guard and on its records in limbo alone, so not on how many records became its own.
-use Rattle.std.proofs.Common.{◌≡◌, ◌<◌, ℕ, length, Bool, true, false, Option, sym, refl, ap, ◌∙◌, subst}
+use Rattle.std.proofs.Common.{◌≡◌, ◌<◌, ◌≤◌, ℕ, length, Bool, true, false, Option, sym, refl, ap, ◌∙◌, subst}
 use Rattle.record_memory.specs.declared.books.Guard.{Guard}
 use Rattle.record_memory.specs.declared.books.Setup.{Setup}
 use Rattle.record_memory.specs.declared.books.View.{View}
@@ -18,6 +18,7 @@ pub guarded_same : (inside : Bool) (s v w : View) → w.setup ≡ v.setup → w.
 guarded_same true s v w setup caller guard g = record {
   active = ap (λ (x : Guard). x.active) guard ∙ g.active;
   started = subst (λ (x : Guard). length s.own.steps < x.start_step) (sym guard) g.started;
+  front = subst (λ (x : Guard). length s.front ≤ x.start_updates) (sym guard) g.front;
   counted = subst (λ (x : Setup × ℕ). x.1 < x.0.callers) (λ k. (sym setup k, sym caller k)) g.counted;
 }
 guarded_same false s v w setup caller guard g = ap (λ (x : Guard). x.active) guard ∙ g
@@ -39,5 +40,5 @@ local_born l inside s v h = record {
 pub local_holds : (l : Bags) (s v : View) (place : ℕ) (t : Option RefParts) → IsLocal l true s v → IsLocal l true s (holds_at v place t)
 local_holds l s v place t h = record {
   bags = bags_stay l v (holds_at v place t) l.place refl (λ i x known is. known) (λ count. refl) refl h.bags.place h.bags;
-  guarded = record { active = h.guarded.active; started = h.guarded.started; counted = h.guarded.counted };
+  guarded = record { active = h.guarded.active; started = h.guarded.started; front = h.guarded.front; counted = h.guarded.counted };
 }

@@ -123,5 +123,7 @@ impl Follows for Debra {
 
     ghost has_started = { λ l s v h off. h.guarded.started };
 
+    ghost starts_behind = { λ l s v h started. h.guarded.front };
+
     ghost local_holds = { local_holds };
 }
