@@ -19,7 +19,7 @@ use Rattle.record_table.specs.declared.nodes.Held.{Held}
 use Rattle.record_table.specs.declared.nodes.Node.TheVariants.{At}
 use Rattle.record_table.specs.Handles.{view}
 use Rattle.record_table.specs.Nodes.{origin_held}
-use Rattle.reclaim_api.proofs.Noting.{exchange_notes}
+use Rattle.reclaim_api.proofs.Noting.{left_notes}
 use Rattle.lazy_facts.specs.Lazy.{lazy, MayTurn}
 use Rattle.list_facts.specs.Steps.{list_settled, marked_with}
 use Rattle.list_calls.specs.Standing.{rank, StandsAt}
@@ -53,18 +53,10 @@ mark_unlocked link new is = subst (λ (l : LinkParts). ¬ HasLock l) (sym is) (�
 pub clean_unlocked : (link new : LinkParts) → new ≡ unlocked link → ¬ HasLock new
 clean_unlocked link new is = subst (λ (l : LinkParts). ¬ HasLock l) (sym is) (λ e. omega (arith, e))
 
--- a step of any kind that leaves a link leaves the notes that an exchange would leave
-left_notes : (v w : View) (at : Held) (old new : LinkParts) (call : Option Call) {kind : StepKind} {locks : List LockedWord} (told : LeftLink lazy v kind (origin_held at) 3 old new call locks w) → list_settled 3 told.body ≡ true
-    → (f m : ℕ) → Stands (note_in v.own.notes at.place).words f (Some m) → Stands (note_in w.own.notes at.place).words 0 (Some (link_word v.setup (origin_held at) new))
-left_notes v w at old new call told settled f m known = subst (λ (ns : List Note). Stands (note_in ns at.place).words 0 (Some (link_word v.setup (origin_held at) new))) (sym (ap (λ (x : View). x.own.notes) told.view))
-    (exchange_notes lazy v _ at.place at.target old new call (record { updates = told.updates; taken_out = told.taken_out; whole = told.whole; body = told.body; word = told.word; view = refl }) settled f m known)
-
 -- the mark that a record's link was left with is known from then on
 pub mark_left : {S R : Type 0} (p q : Pass S R) (root : ℕ) (at : Held) → StandsAt p root (At at) → (link old new : LinkParts) (call : Option Call) {kind : StepKind} {locks : List LockedWord} → IsLink new → new ≡ marked_with link → LeftLink lazy (view p) kind (origin_held at) 3 old new call locks (view q) → IsMarkNoted q at link
 mark_left p q root at stands link old new call is_link is told =
     let left : link_at told.body 3 ≡ new = ap link_in told.word ∙ link_in-packed_link at.target.generation new is_link in
-    let settled : list_settled 3 told.body ≡ true = ap (λ (l : LinkParts). eqb (mark_bit l) 1) (left ∙ is) in (
-      at.target.generation,
-      subst (λ (l : LinkParts). Stands (note_in (view q).own.notes at.place).words 0 (Some (packed_link at.target.generation l))) is
-          (left_notes (view p) (view q) at old new call told settled 1 stands.keyed.0 stands.keyed.1),
-    )
+    let settled : list_settled 3 told.body ≡ true = ap (λ (l : LinkParts). eqb (mark_bit l) 1) (left ∙ is) in
+    subst (λ (l : LinkParts). Stands (note_in (view q).own.notes at.place).words 0 (Some (packed_link at.target.generation l))) is
+        (left_notes lazy (view p) (view q) at.place at.target old new call told settled 1 stands.keyed.0 stands.keyed.1)

@@ -36,7 +36,7 @@ pub record Locks (v w : View) (o : Origin) (link : LinkParts) : Type 0 where
 
 -- the link of what it holds there is known to be this one with a mark, which no step ends
 abbrev pub IsMarkNoted : {S R : Type 0} → Pass S R → Held → LinkParts → Type 0
-IsMarkNoted p at link = (generation : ℕ) × Stands (note_in (view p).own.notes at.place).words 0 (Some (packed_link generation (marked_with link)))
+IsMarkNoted p at link = Stands (note_in (view p).own.notes at.place).words 0 (Some (packed_link at.target.generation (marked_with link)))
 
 module _ {S R L A P : Type 0} {r : OfScheme R L} {a : OfAllocator A} {p : OfPool P} where
   -- the same guard after calls of it, whichever words its caller has locked

@@ -15,7 +15,7 @@ use Rattle.record_table.specs.declared.nodes.Held.{Held}
 use Rattle.record_table.specs.declared.nodes.Node.TheVariants.{At}
 use Rattle.record_table.specs.Handles.{view}
 use Rattle.record_table.specs.Nodes.{origin_held}
-use Rattle.reclaim_api.proofs.Noting.{exchange_notes}
+use Rattle.reclaim_api.proofs.Noting.{left_notes}
 use Rattle.set_calls.specs.Answers.{Decided}
 use Rattle.list_calls.specs.Standing.{rank, StandsAt}
 use Rattle.michael_list.specs.Knowing.{IsMarkNoted}
@@ -40,5 +40,5 @@ module _ {S R : Type 0} (p : Pass S R) (root : ℕ) (at : Held) (stands : Stands
       let left : link_at told.body 3 ≡ marked_with link = ap link_in told.word ∙ link_in-packed_link at.target.generation (marked_with link) is_link in
       let settled : list_settled 3 told.body ≡ true = ap (λ (l : LinkParts). eqb (mark_bit l) 1) left in (
         at.target.generation,
-        exchange_notes michael (view p) (view q) at.place at.target link (marked_with link) (Some (Remove key)) told settled 1 stands.keyed.0 stands.keyed.1,
+        left_notes michael (view p) (view q) at.place at.target link (marked_with link) (Some (Remove key)) told settled 1 stands.keyed.0 stands.keyed.1,
       )

@@ -16,7 +16,7 @@ use Rattle.record_table.specs.declared.nodes.Held.{Held}
 use Rattle.record_table.specs.Handles.{view}
 use Rattle.record_table.specs.Nodes.{HoldsThere}
 use Rattle.reclaim_api.specs.Holds.{KeepsHeld, HasSeen}
-use Rattle.reclaim_api.proofs.Noting.{load_notes, exchange_notes}
+use Rattle.reclaim_api.proofs.Noting.{load_notes, left_notes}
 use Rattle.manager.specs.Callers.{AnswersNone}
 use Rattle.one_key_facts.specs.OneKey.{one_key, empty_marked}
 use Rattle.set_calls.specs.Knowing.{of_michael, HasSeenKey}
@@ -101,5 +101,5 @@ mark_left p q key at old new call holds is made =
     let settled : list_settled 3 made.body ≡ true = eq-eqb (mark_bit (link_at made.body 3)) 1 (ap mark_bit link) in (
       at.target.generation,
       subst (λ k. At (note_in (view q).own.notes at.place).words 0 (Some k)) (ap (packed_link at.target.generation) is)
-          (exchange_notes one_key (view p) (view q) at.place at.target old new call made settled 1 holds.word holds.known),
+          (left_notes one_key (view p) (view q) at.place at.target old new call made settled 1 holds.word holds.known),
     )

@@ -3,12 +3,14 @@ use Rattle.std.proofs.Common.{◌≡◌, ℕ, zero, suc, ◌<◌, List, [], ◌�
 use native.Mathlib.Decide.{ℕ_discrete}
 use Rattle.atomic_table.proofs.Lists.{set_here, set_else}
 use Rattle.set_model.specs.declared.calls.Call.{Call}
+use Rattle.record_memory.specs.declared.steps.StepKind.{StepKind}
+use Rattle.record_memory.specs.declared.books.LockedWord.{LockedWord}
 use Rattle.record_memory.specs.declared.books.Note.{Note}
 use Rattle.record_memory.specs.declared.books.View.{View}
 use Rattle.row_words.specs.Refs.{RefParts, LinkParts}
 use Rattle.record_rule.specs.Facts.{At, ShapeFacts, CoverFacts}
 use Rattle.record_rule.specs.Opening.{no_note}
-use Rattle.record_rule.specs.Links.{Origin, from_root, from_place, note_in, note_word, noting, link_word, LoadedLink, ExchangedLink}
+use Rattle.record_rule.specs.Links.{Origin, from_root, from_place, note_in, note_word, noting, link_word, LoadedLink, LeftLink}
 use Rattle.record_rule.proofs.Lists.{below_at, at_replicate}
 use Rattle.reclaim_api.specs.Holds.{IsElsewhere}
 
@@ -64,8 +66,8 @@ pub load_notes : (s : ShapeFacts) (c : CoverFacts) (v w : View) (p : ℕ) (r : R
     → (f m : ℕ) → At (note_in v.own.notes p).words f (Some m) → At (note_in w.own.notes p).words 0 (Some n)
 load_notes s c v w p r first n told settled f m at = subst (λ (x : View). At (note_in x.own.notes p).words 0 (Some n)) (sym told.view) (noting_settled (s.settled 3 told.saw.body) v.own.notes p f m n r settled at)
 
--- and once it was left so
-pub exchange_notes : (s : ShapeFacts) (v w : View) (p : ℕ) (r : RefParts) (old new : LinkParts) (call : Option Call) (told : ExchangedLink s v (from_place p r) 3 old new call w) → s.settled 3 told.body ≡ true
+-- and once a step of any kind left it so
+pub left_notes : (s : ShapeFacts) (v w : View) (p : ℕ) (r : RefParts) (old new : LinkParts) (call : Option Call) {kind : StepKind} {locks : List LockedWord} (told : LeftLink s v kind (from_place p r) 3 old new call locks w) → s.settled 3 told.body ≡ true
     → (f m : ℕ) → At (note_in v.own.notes p).words f (Some m) → At (note_in w.own.notes p).words 0 (Some (link_word v.setup (from_place p r) new))
-exchange_notes s v w p r old new call told settled f m at = subst (λ (x : View). At (note_in x.own.notes p).words 0 (Some (link_word v.setup (from_place p r) new))) (sym told.view)
+left_notes s v w p r old new call told settled f m at = subst (λ (x : View). At (note_in x.own.notes p).words 0 (Some (link_word v.setup (from_place p r) new))) (sym told.view)
     (noting_settled (s.settled 3 told.body) v.own.notes p f m (link_word v.setup (from_place p r) new) r settled at)

@@ -6,6 +6,7 @@ ghost use Rattle.cover_facts.proofs.KeepingLaws.{none_laws};
 ghost use Rattle.reclaim_api.proofs.Kept.{same_adds};
 ghost use Rattle.reclaim_api.specs.LinkLoads.{ReachesByLoad};
 ghost use Rattle.reclaim_none.specs.Running.{Enters, Leaves, Bears, PutsAway};
+ghost use Rattle.reclaim_none.specs.Starting.{IsStarting, starting_still, starting_holds};
 
 use crate::NoReclaim;
 use reclaim_api::{Follows, Holding, NONE_FREED, Scheme};
@@ -19,7 +20,7 @@ impl Scheme for NoReclaim {
 
     type Local = ();
 
-    ghost is_local = { λ l inside s v. Unit {0} };
+    ghost is_local = { λ l inside s v. IsStarting inside s v };
 
     ghost enters = { Enters };
 
@@ -88,7 +89,7 @@ impl Scheme for NoReclaim {
         NONE_FREED
     }
 
-    ghost local_stays = { λ l inside s v w e h. h };
+    ghost local_stays = { λ l inside s v w same h. starting_still inside s v w same h };
 
     ghost enters_adds = { λ k b f c h. same_adds b c h.0 };
 
@@ -110,5 +111,7 @@ impl Follows for NoReclaim {
 
     ghost has_started = { λ l s v h off. none_begins off };
 
-    ghost local_holds = { λ l s v place t h. h };
+    ghost starts_behind = { λ l s v h started. h.behind.1 started };
+
+    ghost local_holds = { λ l s v place t h. starting_holds s v place t h };
 }
