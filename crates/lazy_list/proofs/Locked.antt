@@ -59,4 +59,4 @@ mark_left p q root at stands link old new call is_link is told =
     let left : link_at told.body 3 ≡ new = ap link_in told.word ∙ link_in-packed_link at.target.generation new is_link in
     let settled : list_settled 3 told.body ≡ true = ap (λ (l : LinkParts). eqb (mark_bit l) 1) (left ∙ is) in
     subst (λ (l : LinkParts). Stands (note_in (view q).own.notes at.place).words 0 (Some (packed_link at.target.generation l))) is
-        (left_notes lazy (view p) (view q) at.place at.target old new call told settled 1 stands.keyed.0 stands.keyed.1)
+    (left_notes lazy (view p) (view q) at.place at.target old new call told settled 1 stands.keyed.0 stands.keyed.1)

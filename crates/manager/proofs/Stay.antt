@@ -1,5 +1,5 @@
 -- A caller after a call of its reclaimer, or after steps of its own.
-use Rattle.std.proofs.Common.{◌≡◌, ◌+◌, ◌-◌, List, ◌++◌, length, length-append, get_or, Bool, None, ap, ◌∙◌, sym, subst, arith}
+use Rattle.std.proofs.Common.{◌≡◌, ◌+◌, ◌-◌, ◌≤◌, List, ◌++◌, length, length-append, get_or, Bool, None, ap, ◌∙◌, sym, subst, arith}
 use Rattle.record_memory.specs.declared.steps.Step.{Step}
 use Rattle.record_memory.specs.declared.books.Book.{Book}
 use Rattle.record_memory.specs.declared.books.View.{View}
@@ -83,6 +83,9 @@ module _ {S R : Type 0} (p q : Pass S R) (same : IsSamePass p q) (steps : List S
     later = let e = ap (λ x. length x.value.me.0.own.steps) same.since in let a = h.later in let b = ap length made.appended in let c = length-append (view p).own.steps steps in omega arith;
   }
 
+  no_fewer : length (view p).own.steps ≤ length (view q).own.steps
+  no_fewer = omega (arith, ap length made.appended, length-append (view p).own.steps steps)
+
   -- it holds what it held
   pub keeps_after : KeepsHeld p q
   keeps_after = keeps_same p q (ap (λ x. x.value.me.0) same.since) same.setup (ap (λ (v : View). v.own.guard) made.rest) (ap (λ (v : View). v.own.notes) made.rest) (ap (λ (v : View). v.seen_updates) made.rest)
@@ -95,7 +98,7 @@ module _ {S R : Type 0} (p q : Pass S R) (same : IsSamePass p q) (steps : List S
   pub chains_after : {L : Type 0} {c : CoverFacts} (is_local : L → Bool → View → View → Type 0) (l : L) (free spare free' spare' : Chain) → LocalStays c is_local → HasChains is_local p l free spare → (view q).own.moves.births ≡ (view p).own.moves.births → AwayStays (view p) (view q)
       → IsChainOf Free (view q) free' → IsChainOf Spare (view q) spare' → idle (view q).own ≡ free'.count + spare'.count → HasChains is_local q l free' spare'
   chains_after {c = c} is_local l free spare free' spare' stays h births limbo frees spares all = record {
-    local = local_still is_local p q l (view p) same stays record { setup = same.setup; caller = same.caller; guard = goes_on c (view p).own.guard (view q).own.guard (ap (λ (v : View). v.own.guard) made.rest); away = limbo; retired = made.retired; births = births } h.local;
+    local = local_still is_local p q l (view p) same stays record { setup = same.setup; caller = same.caller; guard = goes_on c (view p) (view q) (ap (λ (v : View). v.own.guard) made.rest); steps = no_fewer; front = omega (arith, ap (λ (v : View). length v.front) made.rest); away = limbo; retired = made.retired; births = births } h.local;
     frees = frees;
     spares = spares;
     all = all;
@@ -105,19 +108,19 @@ module _ {S R : Type 0} (p q : Pass S R) (same : IsSamePass p q) (steps : List S
   pub chains_born : {L : Type 0} {c : CoverFacts} (is_local : L → Bool → View → View → Type 0) (l : L) (free' spare' : Chain) → LocalStays c is_local → IsLocalBorn is_local l p → (view q).own.moves.births ≡ (view p).own.moves.births + 1 → AwayStays (view p) (view q)
       → IsChainOf Free (view q) free' → IsChainOf Spare (view q) spare' → idle (view q).own ≡ free'.count + spare'.count → HasChains is_local q l free' spare'
   chains_born {c = c} is_local l free' spare' stays h births limbo frees spares all = record {
-    local = local_still is_local p q l (born (view p)) same stays record { setup = same.setup; caller = same.caller; guard = goes_on c (view p).own.guard (view q).own.guard (ap (λ (v : View). v.own.guard) made.rest); away = limbo; retired = made.retired; births = births } h;
+    local = local_still is_local p q l (born (view p)) same stays record { setup = same.setup; caller = same.caller; guard = goes_on c (born (view p)) (view q) (ap (λ (v : View). v.own.guard) made.rest); steps = no_fewer; front = omega (arith, ap (λ (v : View). length v.front) made.rest); away = limbo; retired = made.retired; births = births } h;
     frees = frees;
     spares = spares;
     all = all;
   }
 
 -- a caller whose own book stays rests as before
-pub rests_still : {S R L : Type 0} {c : CoverFacts} (is_local : L → Bool → View → View → Type 0) (p q : Pass S R) (l : L) (free spare : Chain) (n : Moved) (same : IsSamePass p q) → LocalStays c is_local → (view q).own ≡ (view p).own
+pub rests_still : {S R L : Type 0} {c : CoverFacts} (is_local : L → Bool → View → View → Type 0) (p q : Pass S R) (l : L) (free spare : Chain) (n : Moved) (same : IsSamePass p q) → LocalStays c is_local → (view q).own ≡ (view p).own → length (view p).front ≤ length (view q).front
     → IsResting is_local (record { pass = p; local = l; free = free; spare = spare; moved = n }) → IsResting is_local (record { pass = q; local = l; free = free; spare = spare; moved = n })
-rests_still {c = c} is_local p q l free spare n same stays own h = record {
+rests_still {c = c} is_local p q l free spare n same stays own front h = record {
   outside = ap (λ x. x.value) same.inside ∙ h.outside;
   chains = record {
-    local = local_still is_local p q l (view p) same stays record { setup = same.setup; caller = same.caller; guard = goes_on c (view p).own.guard (view q).own.guard (ap (λ (b : Book). b.guard) own); away = λ i. ap (λ (b : Book). in_away (get_or b.mine i None)) own; retired = ap (λ (b : Book). b.moves.retired) own; births = ap (λ (b : Book). b.moves.births) own } h.chains.local;
+    local = local_still is_local p q l (view p) same stays record { setup = same.setup; caller = same.caller; guard = goes_on c (view p) (view q) (ap (λ (b : Book). b.guard) own); steps = omega (arith, ap (λ (b : Book). length b.steps) own); front = front; away = λ i. ap (λ (b : Book). in_away (get_or b.mine i None)) own; retired = ap (λ (b : Book). b.moves.retired) own; births = ap (λ (b : Book). b.moves.births) own } h.chains.local;
     frees = chain_stays Free (view p) (view q) (ap (λ (k : Setup). k.records) same.setup) (mine_stays Free (view p) (view q) (ap (λ (b : Book). b.mine) own)) free h.chains.frees;
     spares = chain_stays Spare (view p) (view q) (ap (λ (k : Setup). k.records) same.setup) (mine_stays Spare (view p) (view q) (ap (λ (b : Book). b.mine) own)) spare h.chains.spares;
     all = ap (λ (b : Book). idle b) own ∙ h.chains.all;

@@ -1,7 +1,7 @@
-use Rattle.std.proofs.Common.{◌+◌, ap, length}
+use Rattle.std.proofs.Common.{◌+◌, ◌≤◌, ap, length, length-append, arith}
 use Rattle.record_memory.specs.declared.books.View.{View}
 use Rattle.record_table.specs.Handles.{view}
-use Rattle.manager.proofs.NodeSteps.{LeavesAll, inside_still, chains_still, stock_still, counts_left, leaves_records}
+use Rattle.manager.proofs.NodeSteps.{LeavesAll, inside_still, chains_still, stock_still, counts_left, one_more, leaves_records}
 use Rattle.record_memory.specs.declared.books.Setup.{Setup}
 use Rattle.record_table.specs.Nodes.{origin, is_first}
 use Rattle.reclaim_api.proofs.Keeping.{keeps_load}
@@ -12,7 +12,8 @@ use Rattle.manager.proofs.steps.load_link.Goals as goal
 -- what it leaves
 leaves : (g : _) (c : goal.After-load_link g) → LeavesAll g.R.Cover.facts (view c.args.caller.now.pass) (view c.load_link.new.pass)
 leaves g c = let told = c.load_link.ensures.step.2 in let e = told.view in let v : View = view c.args.caller.now.pass in let w : View = view c.load_link.new.pass in leaves_records g.R.Cover.facts v w _
-    (record { first = is_first c.args.caller.now.pass; moment = record { epoch = told.epoch; taken_out = length w.seen_taken_out; updates = length w.seen_updates }; step = length v.own.steps + 1; guard = ap (λ (x : View). x.own.guard) e })
+    (record { first = is_first c.args.caller.now.pass; moment = record { epoch = told.epoch; taken_out = length w.seen_taken_out; updates = length w.seen_updates }; step = length v.own.steps + 1; guard = ap (λ (x : View). x.own.guard) e; made = omega (arith, one_more v.own.steps w.own.steps _ (ap (λ (x : View). x.own.steps) e)); behind = omega (arith, ap length told.whole.front.1, length-append v.front told.whole.front.0) })
+    (omega (arith, ap (λ (x : View). length x.front) e))
     (ap (λ (x : View). x.own.mine) e) (ap (λ (x : View). x.own.moves) e) (ap (λ (x : View). x.own.steps) e)
 
 pub returns-clause-caller : goal.returns-clause-caller

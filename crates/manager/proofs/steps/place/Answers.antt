@@ -1,4 +1,5 @@
-use Rattle.std.proofs.Common.{ap}
+use Rattle.std.proofs.Common.{◌≤◌, length, ap, arith}
+use Rattle.std.proofs.lemmas.List.{length-take-le}
 use Rattle.record_memory.specs.declared.books.View.{View}
 use Rattle.record_table.specs.Handles.{view}
 use Rattle.reclaim_api.proofs.Kept.{goes_on}
@@ -12,7 +13,7 @@ use Rattle.manager.proofs.steps.place.Goals as goal
 -- what it leaves
 leaves : (g : _) (c : goal.After-place g) → LeavesAll g.R.Cover.facts (view c.args.caller.now.pass) (view c.place.new.pass)
 leaves g c = let e = c.place.ensures.placed.1 in let v : View = view c.args.caller.now.pass in let w : View = view c.place.new.pass in
-    leaves_records g.R.Cover.facts v w _ (goes_on g.R.Cover.facts v.own.guard w.own.guard (ap (λ (x : View). x.own.guard) e)) (ap (λ (x : View). x.own.mine) e) (ap (λ (x : View). x.own.moves) e) (ap (λ (x : View). x.own.steps) e)
+    leaves_records g.R.Cover.facts v w _ (goes_on g.R.Cover.facts v w (ap (λ (x : View). x.own.guard) e)) (let may = c.requires.1.1.1.1.1.1.may in omega (arith, ap (λ (x : View). length x.front) e, length-take-le g.position v.seen_updates may.within, may.behind)) (ap (λ (x : View). x.own.mine) e) (ap (λ (x : View). x.own.moves) e) (ap (λ (x : View). x.own.steps) e)
 
 pub returns-clause-caller : goal.returns-clause-caller
 returns-clause-caller g c = let a = c.args.caller.now in let q = c.place.new.pass in let same = c.place.ensures.pass in let l = leaves g c in record {

@@ -22,10 +22,12 @@ returns-in-Some-clause-reached g c = let s = c.reach_frozen-link.ensures.step in
     has_followed g.S.Shape.facts g.R.Cover.facts g.met.R.CoversFrozen.frozen c.args.pass.now c.reach_frozen-link.new.pass (origin c.args.from)
     c.args.place s.0 s.2 (ap (λ x. x.value.me.0) c.reach_frozen-link.ensures.pass.since) c.requires.inside.later (inside_started c.args.pass.now g.R.Scheme.is_local c.args.local.now g.R.Cover.facts g.met.R.Follows.has_started c.requires.inside.inside c.requires.local)
     g.R.Scheme.is_local c.args.local.now c.requires.inside.inside g.met.R.Scheme.local_stays g.met.R.Follows.local_holds g.met.R.Follows.starts_behind c.requires.local
-    (let e = g.met.R.Scheme.placed in let low = c.requires.place in omega arith) (Held (record { place = c.args.place; target = c.in-Some.target }) c.link.inside.flags) (λ k. record { flags = flags k; target = leads k })
-    (holds_there g.S.Shape.facts g.R.Cover.facts g.met.R.CoversFrozen.frozen c.args.pass.now c.reach_frozen-link.new.pass (origin c.args.from)
-    c.args.place s.0 s.2 (ap (λ x. x.value.me.0) c.reach_frozen-link.ensures.pass.since) c.requires.inside.later (inside_started c.args.pass.now g.R.Scheme.is_local c.args.local.now g.R.Cover.facts g.met.R.Follows.has_started c.requires.inside.inside c.requires.local)
-    (let e = g.met.R.Scheme.placed in let low = c.requires.place in omega arith) c.in-Some.target leads, refl)
+    (let e = g.met.R.Scheme.placed in let low = c.requires.place in omega arith) (Held (record { place = c.args.place; target = c.in-Some.target }) c.link.inside.flags) (λ k. record { flags = flags k; target = leads k }) (
+      holds_there g.S.Shape.facts g.R.Cover.facts g.met.R.CoversFrozen.frozen c.args.pass.now c.reach_frozen-link.new.pass (origin c.args.from)
+          c.args.place s.0 s.2 (ap (λ x. x.value.me.0) c.reach_frozen-link.ensures.pass.since) c.requires.inside.later (inside_started c.args.pass.now g.R.Scheme.is_local c.args.local.now g.R.Cover.facts g.met.R.Follows.has_started c.requires.inside.inside c.requires.local)
+          (let e = g.met.R.Scheme.placed in let low = c.requires.place in omega arith) c.in-Some.target leads,
+      refl,
+    )
 
 pub returns-in-None-clause-local : goal.returns-in-None-clause-local
 returns-in-None-clause-local g c = let s = c.reach_frozen-link.ensures.step in
@@ -48,4 +50,3 @@ returns-in-None-clause-reached g c = let s = c.reach_frozen-link.ensures.step in
     (holds_none g.S.Shape.facts g.R.Cover.facts g.met.R.CoversFrozen.frozen c.args.pass.now c.reach_frozen-link.new.pass (origin c.args.from)
     c.args.place s.0 s.2 (ap (λ x. x.value.me.0) c.reach_frozen-link.ensures.pass.since) c.requires.inside.later (inside_started c.args.pass.now g.R.Scheme.is_local c.args.local.now g.R.Cover.facts g.met.R.Follows.has_started c.requires.inside.inside c.requires.local)
     (let e = g.met.R.Scheme.placed in let low = c.requires.place in omega arith) leads)
-
