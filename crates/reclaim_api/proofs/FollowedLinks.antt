@@ -6,7 +6,8 @@ use Rattle.atomic_table.proofs.Lists.{set_here}
 use Rattle.record_memory.specs.declared.books.View.{View}
 use Rattle.record_memory.specs.declared.books.Guard.{Guard}
 use Rattle.row_words.specs.Refs.{RefParts, LinkParts}
-use Rattle.row_words.specs.Packing.{link_in}
+use Rattle.row_words.specs.Packing.{link_in, IsLink}
+use Rattle.row_words.proofs.Packed.{link_in-packed_link}
 use Rattle.record_rule.specs.Facts.{At, Moment, ShapeFacts, CoverFacts}
 use Rattle.record_rule.specs.Guards.{nothing_at, started_if, holding}
 use Rattle.record_rule.specs.Frozen.{FrozenLaws}
@@ -125,6 +126,7 @@ module _ (s : ShapeFacts) (c : CoverFacts) (frozen : FrozenLaws c) {S R : Type 0
   has_followed is_local l is stays holds starts h small r e held = let saw = has_seen small r e in record {
     holds = held;
     seen = saw.0;
+    in_range = subst IsLink (sym (ap link_in told.link.packed ∙ link_in-packed_link told.link.own told.link.link told.link.in_range) ∙ e) told.link.in_range;
     start = saw.1;
     behind = subst (λ (v : View). length v.front ≤ (view q).own.guard.start_updates) same (starts l (since q) (view q) (local_then is_local l true is refl stays holds h) saw.0.started);
   }

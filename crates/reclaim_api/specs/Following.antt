@@ -3,7 +3,7 @@ use Rattle.std.specs.Prelude.{◌≡◌, ℕ, ◌≤◌, length, [], ◌∷◌, 
 use Rattle.record_memory.specs.declared.books.Book.{Book}
 use Rattle.record_memory.specs.declared.books.View.{View}
 use Rattle.row_words.specs.Refs.{RefParts, LinkParts}
-use Rattle.row_words.specs.Packing.{link_in}
+use Rattle.row_words.specs.Packing.{link_in, IsLink}
 use Rattle.record_rule.specs.Facts.{ShapeFacts}
 use Rattle.record_rule.specs.Guards.{holding}
 use Rattle.record_rule.specs.Inputs.{start_of}
@@ -36,6 +36,7 @@ module _ {S R : Type 0} where
   pub record HasFollowed (s : ShapeFacts) (place : ℕ) (o : Origin) (p : Pass S R) (r : Reached) (q : Pass S R) : Type 0 where
     pub holds : HoldsReached place r q
     pub seen : HasSeenTarget s place o p q (found_link r).target (found_link r)
+    pub in_range : IsLink (found_link r)
     -- by the start of the guard that the pass knew
     pub start : start_of seen.at_load.own.guard ≡ start_of (view p).own.guard
     -- the guard started behind all that the caller knew to come before when its operation began
