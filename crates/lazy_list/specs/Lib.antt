@@ -1,3 +1,5 @@
 pub mod Locking
+pub mod Places
 pub mod Walks
 pub mod Pieces
+pub mod Knowing

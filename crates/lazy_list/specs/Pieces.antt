@@ -1,5 +1,6 @@
 -- What each call of the lazy list does, event by event: tries, each a walk and what comes of it, and then the answer.
-use Rattle.std.specs.Prelude.{◌≡◌, ℕ, ◌+◌, ◌≤◌, List, [], ◌∷◌, ◌++◌, true, false, Option, Some, None}
+use Rattle.std.specs.Prelude.{◌≡◌, ℕ, ◌+◌, ◌-◌, ◌≤◌, max, List, [], ◌∷◌, ◌++◌, true, false, Option, Some, None}
+use Rattle.set_model.specs.declared.calls.Update.{Update}
 use Rattle.set_model.specs.declared.calls.Call.TheVariants.{Insert, Remove, Search}
 use Rattle.set_model.specs.declared.calls.InsertAnswer.{InsertAnswer}
 use Rattle.set_model.specs.declared.calls.InsertAnswer.TheVariants.{Done, Full, Again}
@@ -17,6 +18,7 @@ use Rattle.list_calls.specs.Records.{target_of, back, HasRecord}
 use Rattle.lazy_list.specs.declared.spots.Spot.TheVariants.{Present, Absent}
 use Rattle.lazy_list.specs.Locking.{locked_with, unlocked, link_to, locked_to}
 use Rattle.lazy_list.specs.Walks.{Finds}
+use Rattle.lazy_list.specs.Places.{IsRemovalAt}
 
 -- a link with these flags is marked or locked, as a walk found it
 abbrev pub HasFlags : ℕ → Type 0
@@ -45,11 +47,11 @@ takes_out_locked before gone link = unlinked_locked before 3 (locked_to (Some go
 module _ (root key : ℕ) where
   -- a try of an insertion that failed: the record with the key is marked; or its predecessor's link is marked or locked; or that link wasn't the same any more
   pub data FailsToInsert (own : Option RefParts) : Option RefParts → ℕ → List Event → Type 0 where
-    is_marked : {hops seen flags : ℕ} {before : Node} {at : Held} {fs : List Event} (link : LinkParts) (then : ℕ) → Finds key root hops (Some (Present before flags at)) (Some seen) fs → HasMark link
+    is_marked : {hops seen flags low : ℕ} {before : Node} {at : Held} {fs : List Event} (link : LinkParts) (then : ℕ) → Finds key root hops low (Some (Present before flags at)) (Some seen) fs → HasMark link
         → FailsToInsert own own hops (fs ++ looked (At at) 3 link then ∷ [])
-    is_taken : {hops seen flags : ℕ} {hand : Option RefParts} {r : RefParts} {before : Node} {next : Option Held} {fs gs : List Event} → Finds key root hops (Some (Absent before flags next)) (Some seen) fs → HasRecord r hand gs → own ≡ Some r → HasFlags flags
+    is_taken : {hops seen flags low : ℕ} {hand : Option RefParts} {r : RefParts} {before : Node} {next : Option Held} {fs gs : List Event} → Finds key root hops low (Some (Absent before flags next)) (Some seen) fs → HasRecord r hand gs → own ≡ Some r → HasFlags flags
         → FailsToInsert own hand hops (fs ++ gs)
-    is_late : {hops seen : ℕ} {hand : Option RefParts} {r : RefParts} {before : Node} {next : Option Held} {fs gs : List Event} (other : LinkParts) → Finds key root hops (Some (Absent before 0 next)) (Some seen) fs → HasRecord r hand gs → own ≡ Some r
+    is_late : {hops seen low : ℕ} {hand : Option RefParts} {r : RefParts} {before : Node} {next : Option Held} {fs gs : List Event} (other : LinkParts) → Finds key root hops low (Some (Absent before 0 next)) (Some seen) fs → HasRecord r hand gs → own ≡ Some r
         → FailsToInsert own hand hops (fs ++ gs ++ tries_lock before (target_of next) (Some other))
 
   -- tries that failed, after so many hops, and the own record that the call has from them
@@ -60,12 +62,12 @@ module _ (root key : ℕ) where
   -- a try of a removal that failed
   pub data FailsToRemove : ℕ → List Event → Type 0 where
     -- the record isn't marked, and its predecessor's link is marked or locked; or that has no flags, and the record's is locked
-    is_taken : {hops seen flags : ℕ} {before : Node} {at : Held} {fs : List Event} (link : LinkParts) (then : ℕ) → Finds key root hops (Some (Present before flags at)) (Some seen) fs → HasFlags flags → ¬ HasMark link → FailsToRemove hops (fs ++ looked (At at) 3 link then ∷ [])
-    is_locked : {hops seen : ℕ} {before : Node} {at : Held} {fs : List Event} (link : LinkParts) (then : ℕ) → Finds key root hops (Some (Present before 0 at)) (Some seen) fs → HasLock link → ¬ HasMark link → FailsToRemove hops (fs ++ looked (At at) 3 link then ∷ [])
+    is_taken : {hops seen flags low : ℕ} {before : Node} {at : Held} {fs : List Event} (link : LinkParts) (then : ℕ) → Finds key root hops low (Some (Present before flags at)) (Some seen) fs → HasFlags flags → ¬ HasMark link → FailsToRemove hops (fs ++ looked (At at) 3 link then ∷ [])
+    is_locked : {hops seen low : ℕ} {before : Node} {at : Held} {fs : List Event} (link : LinkParts) (then : ℕ) → Finds key root hops low (Some (Present before 0 at)) (Some seen) fs → HasLock link → ¬ HasMark link → FailsToRemove hops (fs ++ looked (At at) 3 link then ∷ [])
     -- the predecessor's wasn't the same any more; or the record's, and then the predecessor's lock is taken off
-    is_late : {hops seen : ℕ} {before : Node} {at : Held} {fs : List Event} (other link : LinkParts) (then : ℕ) → Finds key root hops (Some (Present before 0 at)) (Some seen) fs → link.flags ≡ 0
+    is_late : {hops seen low : ℕ} {before : Node} {at : Held} {fs : List Event} (other link : LinkParts) (then : ℕ) → Finds key root hops low (Some (Present before 0 at)) (Some seen) fs → link.flags ≡ 0
         → FailsToRemove hops (fs ++ looked (At at) 3 link then ∷ [] ++ tries_lock before (Some at.target) (Some other))
-    is_second : {hops seen : ℕ} {before : Node} {at : Held} {fs : List Event} (other link : LinkParts) (then : ℕ) → Finds key root hops (Some (Present before 0 at)) (Some seen) fs → link.flags ≡ 0
+    is_second : {hops seen low : ℕ} {before : Node} {at : Held} {fs : List Event} (other link : LinkParts) (then : ℕ) → Finds key root hops low (Some (Present before 0 at)) (Some seen) fs → link.flags ≡ 0
         → FailsToRemove hops (fs ++ looked (At at) 3 link then ∷ [] ++ tries_lock before (Some at.target) None ++ tries_lock (At at) link.target (Some other) ++ takes_lock_off before (Some at.target))
 
   pub data Removings : ℕ → List Event → Type 0 where
@@ -74,31 +76,33 @@ module _ (root key : ℕ) where
 
   -- an insertion within this budget of hops
   pub data Inserts (budget : ℕ) : InsertAnswer → List Event → Type 0 where
-    adds : {made hops seen : ℕ} {hand : Option RefParts} {own : RefParts} {before : Node} {next : Option Held} {es fs gs : List Event} → Insertings made hand es → Finds key root hops (Some (Absent before 0 next)) (Some seen) fs → HasRecord own hand gs
+    adds : {made hops seen low : ℕ} {hand : Option RefParts} {own : RefParts} {before : Node} {next : Option Held} {es fs gs : List Event} → Insertings made hand es → Finds key root hops low (Some (Absent before 0 next)) (Some seen) fs → HasRecord own hand gs
         → made + hops ≤ budget → Inserts budget (Done true) (es ++ fs ++ gs ++ tries_lock before (target_of next) None ++ links_locked key before next own)
-    has_it : {made hops seen flags : ℕ} {hand : Option RefParts} {before : Node} {at : Held} {es fs : List Event} (link : LinkParts) (then : ℕ) → Insertings made hand es → Finds key root hops (Some (Present before flags at)) (Some seen) fs → ¬ HasMark link
+    has_it : {made hops seen flags low : ℕ} {hand : Option RefParts} {before : Node} {at : Held} {es fs : List Event} (link : LinkParts) (then : ℕ) → Insertings made hand es → Finds key root hops low (Some (Present before flags at)) (Some seen) fs → ¬ HasMark link
         → made + hops ≤ budget → Inserts budget (Done false) (es ++ fs ++ looked (At at) 3 link then ∷ [] ++ back hand ++ placed (Insert key) false then ∷ [])
-    is_full : {made hops seen flags found : ℕ} {before : Node} {next : Option Held} {es fs : List Event} → Insertings made None es → Finds key root hops (Some (Absent before flags next)) (Some seen) fs
+    is_full : {made hops seen flags found low : ℕ} {before : Node} {next : Option Held} {es fs : List Event} → Insertings made None es → Finds key root hops low (Some (Absent before flags next)) (Some seen) fs
         → made + hops ≤ budget → Inserts budget (Full found) (es ++ fs ++ refused found ∷ [])
-    again : {made hops : ℕ} {hand : Option RefParts} {es fs : List Event} → Insertings made hand es → Finds key root hops None None fs → made + hops ≡ budget → Inserts budget (Again budget) (es ++ fs ++ back hand)
+    again : {made hops low : ℕ} {hand : Option RefParts} {es fs : List Event} → Insertings made hand es → Finds key root hops low None None fs → made + hops ≡ budget → Inserts budget (Again budget) (es ++ fs ++ back hand)
 
-  -- Where an absence was seen, and behind how many updates it is placed. By a walk's end behind a node without a mark it is its last look; by a mark, the caller's contract says which place it is, the later one of its guard's start and the removal that marked
-  pub data Lacks : ℕ → ℕ → List Event → Type 0 where
-    by_gap : {hops seen flags : ℕ} {before : Node} {next : Option Held} {fs : List Event} → Finds key root hops (Some (Absent before flags next)) (Some seen) fs → ¬ HasMark (record { flags = flags; target = target_of next }) → Lacks hops seen fs
-    by_marked_gap : {hops seen flags : ℕ} {before : Node} {next : Option Held} {fs : List Event} (shown : ℕ) → Finds key root hops (Some (Absent before flags next)) (Some seen) fs → HasMark (record { flags = flags; target = target_of next }) → shown ≤ seen → Lacks hops shown fs
-    by_mark : {hops seen flags : ℕ} {before : Node} {at : Held} {fs : List Event} (shown : ℕ) (link : LinkParts) (then : ℕ) → Finds key root hops (Some (Present before flags at)) (Some seen) fs → HasMark link → shown ≤ then → Lacks hops shown (fs ++ looked (At at) 3 link then ∷ [])
+  -- Where an absence was seen, and behind how many updates it is placed: where a walk ended behind a node without a mark, by its last look; else behind the later of the guard's start and the removal that marked the node behind which it ended, or the record with the key
+  pub data Lacks (start : ℕ) (updates : List Update) : ℕ → ℕ → List Event → Type 0 where
+    by_gap : {hops low seen flags : ℕ} {before : Node} {next : Option Held} {fs : List Event} → Finds key root hops low (Some (Absent before flags next)) (Some seen) fs → ¬ HasMark (record { flags = flags; target = target_of next }) → Lacks start updates hops seen fs
+    by_marked_gap : {hops low seen flags : ℕ} {before : Node} {next : Option Held} {fs : List Event} (m : ℕ) → Finds key root hops low (Some (Absent before flags next)) (Some seen) fs → HasMark (record { flags = flags; target = target_of next })
+        → IsRemovalAt updates m (low - 1) → Lacks start updates hops (max start m) fs
+    by_mark : {hops low seen flags : ℕ} {before : Node} {at : Held} {fs : List Event} (m : ℕ) (link : LinkParts) (then : ℕ) → Finds key root hops low (Some (Present before flags at)) (Some seen) fs → HasMark link
+        → IsRemovalAt updates m key → Lacks start updates hops (max start m) (fs ++ looked (At at) 3 link then ∷ [])
 
-  -- a removal
-  pub data Removes (budget : ℕ) : LookAnswer → List Event → Type 0 where
-    takes_away : {made hops seen : ℕ} {before : Node} {at : Held} {es fs : List Event} (link : LinkParts) (then : ℕ) → Removings made es → Finds key root hops (Some (Present before 0 at)) (Some seen) fs → link.flags ≡ 0
+  -- a removal within a guard that started behind so many updates, of which these had taken effect
+  pub data Removes (start : ℕ) (updates : List Update) (budget : ℕ) : LookAnswer → List Event → Type 0 where
+    takes_away : {made hops seen low : ℕ} {before : Node} {at : Held} {es fs : List Event} (link : LinkParts) (then : ℕ) → Removings made es → Finds key root hops low (Some (Present before 0 at)) (Some seen) fs → link.flags ≡ 0
         → made + hops ≤ budget
-        → Removes budget (Looked true) (es ++ fs ++ looked (At at) 3 link then ∷ [] ++ tries_lock before (Some at.target) None ++ tries_lock (At at) link.target None ++ marks_locked key at link ++ takes_out_locked before at (unlocked link))
-    lacks_it : {made hops shown : ℕ} {es fs : List Event} → Removings made es → Lacks hops shown fs → made + hops ≤ budget → Removes budget (Looked false) (es ++ fs ++ placed (Remove key) false shown ∷ [])
-    again : {made hops : ℕ} {es fs : List Event} → Removings made es → Finds key root hops None None fs → made + hops ≡ budget → Removes budget (LookAgain budget) (es ++ fs)
+        → Removes start updates budget (Looked true) (es ++ fs ++ looked (At at) 3 link then ∷ [] ++ tries_lock before (Some at.target) None ++ tries_lock (At at) link.target None ++ marks_locked key at link ++ takes_out_locked before at (unlocked link))
+    lacks_it : {made hops shown : ℕ} {es fs : List Event} → Removings made es → Lacks start updates hops shown fs → made + hops ≤ budget → Removes start updates budget (Looked false) (es ++ fs ++ placed (Remove key) false shown ∷ [])
+    again : {made hops low : ℕ} {es fs : List Event} → Removings made es → Finds key root hops low None None fs → made + hops ≡ budget → Removes start updates budget (LookAgain budget) (es ++ fs)
 
   -- a search, which has one try
-  pub data Searches (budget : ℕ) : LookAnswer → List Event → Type 0 where
-    sees : {hops seen flags : ℕ} {before : Node} {at : Held} {fs : List Event} (link : LinkParts) (then : ℕ) → Finds key root hops (Some (Present before flags at)) (Some seen) fs → ¬ HasMark link
-        → hops ≤ budget → Searches budget (Looked true) (fs ++ looked (At at) 3 link then ∷ [] ++ placed (Search key) true then ∷ [])
-    lacks_it : {hops shown : ℕ} {fs : List Event} → Lacks hops shown fs → hops ≤ budget → Searches budget (Looked false) (fs ++ placed (Search key) false shown ∷ [])
-    again : {fs : List Event} → Finds key root budget None None fs → Searches budget (LookAgain budget) fs
+  pub data Searches (start : ℕ) (updates : List Update) (budget : ℕ) : LookAnswer → List Event → Type 0 where
+    sees : {hops seen flags low : ℕ} {before : Node} {at : Held} {fs : List Event} (link : LinkParts) (then : ℕ) → Finds key root hops low (Some (Present before flags at)) (Some seen) fs → ¬ HasMark link
+        → hops ≤ budget → Searches start updates budget (Looked true) (fs ++ looked (At at) 3 link then ∷ [] ++ placed (Search key) true then ∷ [])
+    lacks_it : {hops shown : ℕ} {fs : List Event} → Lacks start updates hops shown fs → hops ≤ budget → Searches start updates budget (Looked false) (fs ++ placed (Search key) false shown ∷ [])
+    again : {low : ℕ} {fs : List Event} → Finds key root budget low None None fs → Searches start updates budget (LookAgain budget) fs

@@ -10,8 +10,10 @@ mod locking;
 mod shape;
 mod spots;
 mod updating;
+mod walking;
 
 pub use locking::{lock, unlock};
 pub use shape::LazyShape;
-pub use spots::Spot;
+pub use spots::{Landing, Spot};
 pub use updating::{link_locked, mark_locked, take_out_locked};
+pub use walking::find;

@@ -23,3 +23,17 @@ pub enum Spot {
         next: Option<Held>,
     },
 }
+
+/// What a hop to the next record of a list comes to.
+#[derive(Debug, PartialEq, Eq, Drop)]
+pub enum Landing {
+    /// The record has a smaller key, and the walk goes on from it.
+    On {
+        /// The record.
+        at: Held,
+        /// Its key.
+        key: u64,
+    },
+    /// The walk ended.
+    Found(Spot),
+}

@@ -5,3 +5,4 @@ pub mod Records
 pub mod Hands
 pub mod Stock
 pub mod Spares
+pub mod Reached

@@ -6,6 +6,8 @@
 //! is for contracts and proofs.
 #![tactic(auto)]
 
+mod places;
 mod taking;
 
+pub use places::place_behind;
 pub use taking::{give_back, take_record, target_of};

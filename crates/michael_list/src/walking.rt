@@ -17,6 +17,7 @@ ghost use Rattle.michael_list.specs.Knowing.{IsMarkNoted, HasReachedNext, IsLand
 use crate::shape::MichaelShape;
 use crate::spots::{Landing, Spot};
 use alloc_api::Allocator;
+use list_calls::place_behind;
 use manager::Guard;
 use pool::Pool;
 use reclaim_api::{Holding, Scheme};
@@ -24,17 +25,6 @@ use record_memory::LINK;
 use record_table::{Held, Node};
 use row_words::Link;
 use set_calls::{same_held, same_node};
-
-// The place for what a node leads to: 0 or 1, whichever isn't the node's.
-fn place_behind(node: &Node) -> u32
-    ensures within { result < 2 }
-    ensures else_ { IsElsewhere (origin node.now) result }
-{
-    match node {
-        Node::Root(_) => 0,
-        Node::At(held) => { if held.place == 0 { 1 } else { 0 } }
-    }
-}
 
 /// Takes a marked record out behind its predecessor, and retires it. `link` is the record's link without its mark.
 /// `false`: the predecessor's link had changed, so another caller was first, or an insertion came between.

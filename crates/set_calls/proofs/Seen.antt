@@ -1,10 +1,10 @@
 -- What was seen of a key: by the calls of a guard that see it, and after calls that keep what was seen.
-use Rattle.std.proofs.Common.{◌≡◌, ℕ, ◌≤◌, length, length-append, Bool, sym, ap, ◌∙◌, subst, arith}
+use Rattle.std.proofs.Common.{◌≡◌, ℕ, ◌≤◌, length, length-append, Bool, Option, sym, ap, ◌∙◌, subst, arith}
 use Rattle.set_model.specs.Keys.{contains}
 use Rattle.set_model.specs.Histories.{keys_of}
 use Rattle.record_memory.specs.declared.books.Setup.{Setup}
 use Rattle.record_memory.specs.declared.books.View.{View}
-use Rattle.row_words.specs.Refs.{LinkParts}
+use Rattle.row_words.specs.Refs.{RefParts, LinkParts}
 use Rattle.record_rule.specs.Facts.{ShapeFacts, CoverFacts}
 use Rattle.record_rule.specs.World.{StartsWith}
 use Rattle.record_rule.specs.Links.{Origin, LoadedLink}
@@ -12,7 +12,7 @@ use Rattle.record_rule.proofs.Rebuilt.{starts_itself, starts_then}
 use Rattle.record_table.specs.declared.passes.Pass.{Pass}
 use Rattle.record_table.specs.Handles.{view}
 use Rattle.record_table.specs.Nodes.{HasStarted}
-use Rattle.reclaim_api.specs.Holds.{KeepsSome, KeepsHeld, HasSeen}
+use Rattle.reclaim_api.specs.Holds.{KeepsSome, KeepsHeld, HasSeenTarget}
 use Rattle.manager.specs.Callers.{AnswersNone}
 use Rattle.set_calls.specs.Knowing.{IsOfKeys, HasSeenKey}
 
@@ -32,7 +32,7 @@ module _ {S R : Type 0} (p q : Pass S R) (setup : (view q).setup ≡ (view p).se
 
   module _ (s : ShapeFacts) (keys : IsOfKeys s.name) (o : Origin) where
     -- by the last load of a link in a try to hold what it leads to, which is the last that the pass noted
-    pub seen_by_hold : (place : ℕ) (link : LinkParts) (seen : HasSeen s place o p q link) → contains (keys_of seen.updates) key ≡ present → HasSeenKey q key present (view q).own.updates_seen
+    pub seen_by_hold : (place : ℕ) (link : LinkParts) {to : Option RefParts} (seen : HasSeenTarget s place o p q to link) → contains (keys_of seen.updates) key ≡ present → HasSeenKey q key present (view q).own.updates_seen
     seen_by_hold place link seen answer = record {
       of_keys = subst IsOfKeys (sym (ap (λ (k : Setup). k.set) (setup ∙ sym seen.setup) ∙ seen.saw.set_is)) keys;
       updates = seen.updates;
