@@ -1,10 +1,8 @@
 -- What the walker of a lazy list knows of the node at which it is, and of what it reached from there.
-use Rattle.std.specs.Prelude.{◌≡◌, ℕ, ◌+◌, ◌-◌, ◌<◌, max, List, true, false, Option, Some, None, Result, Ok, Err}
-use Rattle.set_model.specs.declared.calls.Update.{Update}
+use Rattle.std.specs.Prelude.{◌≡◌, ℕ, ◌+◌, ◌-◌, ◌<◌, ◌≤◌, length, max, false, Option, Some, None, Result, Ok, Err}
 use Rattle.record_memory.specs.declared.books.View.{View}
 use Rattle.row_words.specs.Refs.{LinkParts}
-use Rattle.row_words.specs.Packing.{IsLink}
-use Rattle.record_rule.specs.Facts.{At as Stands, HasMark}
+use Rattle.record_rule.specs.Facts.{HasMark}
 use Rattle.record_table.specs.declared.passes.Pass.{Pass}
 use Rattle.record_table.specs.declared.nodes.Held.{Held}
 use Rattle.record_table.specs.declared.nodes.Node.{Node}
@@ -36,6 +34,10 @@ module _ {S R : Type 0} where
   abbrev pub AnsweredNone : Pass S R → Type 0
   AnsweredNone p = (view p).front ≡ (since p).front
 
+  -- the guard started behind all that the caller knows to come before
+  abbrev pub StartsBehind : Pass S R → Type 0
+  StartsBehind p = length (view p).front ≤ (view p).own.guard.start_updates
+
   -- The node is marked, and the key was absent behind the later of the guard's start and the removal that marked it
   abbrev pub HasSeenAtMark : Pass S R → Node → ℕ → Type 0
   HasSeenAtMark p node key = (m : ℕ) × IsRemovalAt (view p).seen_updates m (rank p node - 1) × HasSeenKey p key false (max (view p).own.guard.start_updates m)
@@ -51,13 +53,13 @@ module _ {S R : Type 0} where
     pub else : IsElsewhere (origin before) at.place
     pub stands : StandsAt p root (At at)
     pub rises : rank p before < rank p (At at)
-    pub in_range : IsLink link
+    pub behind : StartsBehind p
     pub gap : key + 1 < rank p (At at) → ShowsAbsent p key before link
 
   -- where a walk for the key ended, and what it saw of the key there
   abbrev pub IsSpot : Pass S R → ℕ → ℕ → Spot → Type 0
-  IsSpot p root key (Present before flags at) = StandsBefore p root key before × IsElsewhere (origin before) at.place × StandsAt p root (At at) × (rank p (At at) ≡ key + 1) × IsLink (record { flags = flags; target = Some at.target })
-  IsSpot p root key (Absent before flags next) = StandsBefore p root key before × IsBeyond p root key next × IsLink (record { flags = flags; target = target_of next }) × ShowsAbsent p key before (record { flags = flags; target = target_of next })
+  IsSpot p root key (Present before flags at) = StandsBefore p root key before × IsElsewhere (origin before) at.place × StandsAt p root (At at) × (rank p (At at) ≡ key + 1) × StartsBehind p
+  IsSpot p root key (Absent before flags next) = StandsBefore p root key before × IsBeyond p root key next × ShowsAbsent p key before (record { flags = flags; target = target_of next })
 
   -- the rank of the node behind which a walk ended
   abbrev pub low_at : Pass S R → Spot → ℕ

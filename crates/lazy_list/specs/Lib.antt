@@ -3,3 +3,4 @@ pub mod Places
 pub mod Walks
 pub mod Pieces
 pub mod Knowing
+pub mod Tries

@@ -6,13 +6,17 @@
 //! changed nothing. What it has locked it alone changes, and each such step takes the lock off.
 #![tactic(auto)]
 
+mod inserting;
 mod locking;
+mod placing;
+mod removing;
 mod shape;
 mod spots;
 mod updating;
 mod walking;
 
 pub use locking::{lock, unlock};
+pub use placing::place_at_mark;
 pub use shape::LazyShape;
 pub use spots::{Landing, Spot};
 pub use updating::{link_locked, mark_locked, take_out_locked};

@@ -19,7 +19,7 @@ unlink_locked-taken-requires-clause-allowed g c =
     let f = c.args.guard.now in let p = f.caller.now.pass in let setup = setup_of f.manager.now.table in
     subst (λ (z : Node × Held). (old : LinkParts) × HasLocked (view p) (origin z.0) 3 old × (old.target ≡ Some z.1.target) × lazy.may_unlink setup (near_of (view p) (origin z.0)) 3 old (near_of (view p) (origin_held z.1)) c.args.link None None)
     (λ k. (sym c.same_node.ensures k, sym c.same_held.ensures k))
-    (locked_to (Some c.args.gone.now.target), c.requires.locked, refl, (refl, (refl, c.requires.marked, c.requires.link.0), refl))
+    (locked_to (Some c.args.gone.now.target), c.requires.locked, refl, (refl, (refl, (c.args.gone.now.target.generation, c.requires.marked), c.requires.link.0), refl))
 
 pub returns-clause-did : goal.returns-clause-did
 returns-clause-did g c =
