@@ -1,1 +1,4 @@
 mod Locked
+mod Seeing
+mod Reached
+mod Steps

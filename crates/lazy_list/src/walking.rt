@@ -1,8 +1,9 @@
 // A walk along a list, hop by hop. It follows every link, marked or not, and so never starts again.
-ghost use Rattle.std.specs.Prelude.{◌≡◌, ◌<◌, ◌≤◌, ◌+◌, ℕ, List, Option, Some, MatchOption};
+ghost use Rattle.std.specs.Prelude.{◌≡◌, ◌<◌, ◌≤◌, ◌+◌, [], ◌∷◌, ℕ, List, Option, Some, MatchOption};
 ghost use Rattle.row_words.specs.Refs.{LinkParts};
 ghost use Rattle.record_table.specs.Handles.{setup_of, view};
-ghost use Rattle.record_pieces.specs.Events.{Event};
+ghost use Rattle.record_table.specs.declared.nodes.Node.TheVariants.{At};
+ghost use Rattle.record_pieces.specs.Events.{Event, keyed};
 ghost use Rattle.manager.specs.Guards.{IsAtWork, DidAll};
 ghost use Rattle.set_calls.specs.Going.{GoesOn};
 ghost use Rattle.list_calls.specs.Standing.{IsHome, StandsBefore, rank};
@@ -20,8 +21,29 @@ use record_memory::LINK;
 use record_table::{Held, Node};
 use set_calls::{same_held, same_node};
 
-// Looks at the key of a record that the hop from `before` reached, and goes where that tells. `flags` are those of the link
-// that led there.
+// Loads the key of a record that the hop from `before` reached. `flags` are those of the link that led there.
+fn read<'a, R: Follows, A: Allocator, P: Pool>(
+    guard: &mut Guard<'a, LazyShape, R, A, P>,
+    root: u32,
+    before: &Node,
+    flags: u8,
+    at: &Held,
+    key: u64,
+) -> u64
+    requires at_work { IsAtWork guard.old }
+    requires reached { HasReachedNext guard.old.caller.now.pass root key before.now (record { flags = flags; target = Some at.now.target }) at.now }
+    ensures at_work { IsAtWork guard.new }
+    ensures on { GoesOn guard.old guard.new }
+    ensures seen { (view guard.new.caller.now.pass).own.updates_seen ≡ (view guard.old.caller.now.pass).own.updates_seen }
+    ensures reached { HasReachedNext guard.new.caller.now.pass root key before.now (record { flags = flags; target = Some at.now.target }) at.now }
+    ensures low { rank guard.new.caller.now.pass before.now ≡ rank guard.old.caller.now.pass before.now }
+    ensures key { rank guard.new.caller.now.pass (At at.now) ≡ result + 1 }
+    ensures did { DidAll guard.old (keyed at.now.target result ∷ []) guard.new }
+{
+    guard.load_key(same_held(at))
+}
+
+// Looks at the key of a record that the hop from `before` reached, and goes where that tells. `flags` are as for `read`.
 fn look<'a, R: Follows, A: Allocator, P: Pool>(
     guard: &mut Guard<'a, LazyShape, R, A, P>,
     root: u32,
@@ -38,7 +60,7 @@ fn look<'a, R: Follows, A: Allocator, P: Pool>(
     ensures landing { IsLanding guard.new.caller.now.pass root key (rank guard.old.caller.now.pass before) result }
     ensures did { (es : List Event) × Looks key before flags at result es × DidAll guard.old es guard.new }
 {
-    let found = guard.load_key(same_held(&at));
+    let found = read(guard, root, &before, flags, &at, key);
     if found < key {
         return Landing::On { at, key: found };
     }
