@@ -2,6 +2,7 @@
 ghost use Rattle.std.specs.Prelude.{◌≤◌, ◌<◌};
 ghost use Rattle.set_model.specs.Machine.{key_of};
 ghost use Rattle.hash_tests.specs.Only.{IsOnlyCallerOf};
+ghost use Rattle.reclaim_none.specs.Starting.{IsLocal};
 
 use crate::reclaimed::only;
 use alloc_bump::Bump;
@@ -26,16 +27,16 @@ const GREATEST: u64 = 1_099_511_627_773;
 
 // Makes the call.
 fn play(hash: &TestHash, caller: &mut TestCaller, call: Call, budget: u32) -> Answer
-    requires only { IsOnlyCallerOf (λ l inside s v. Unit {0}) hash.now.lists.manager.table caller.old }
+    requires only { IsOnlyCallerOf IsLocal hash.now.lists.manager.table caller.old }
     requires key { key_of call ≤ 1099511627773 }
-    ensures only { IsOnlyCallerOf (λ l inside s v. Unit {0}) hash.now.lists.manager.table caller.new }
+    ensures only { IsOnlyCallerOf IsLocal hash.now.lists.manager.table caller.new }
 {
     hash.play(caller, call, budget)
 }
 
 // Ends the table, and gives the number and the sum of its keys.
 fn sums(alloc: Global, hash: TestHash, caller: TestCaller) -> Result<(u64, u64), Fail>
-    requires only { IsOnlyCallerOf (λ l inside s v. Unit {0}) hash.lists.manager.table caller }
+    requires only { IsOnlyCallerOf IsLocal hash.lists.manager.table caller }
 {
     let callers = Vec::from_array(alloc, [caller])?;
     let closed = ConcurrentSet::close(hash, callers);

@@ -10,6 +10,7 @@ use Rattle.reclaim_api.specs.Guarding.{IsSameCaller}
 use Rattle.manager.specs.declared.types.Caller.{Caller}
 use Rattle.manager.specs.Callers.{IsResting}
 use Rattle.manager.specs.Made.{passes_of}
+use Rattle.reclaim_none.specs.Starting.{IsLocal}
 use Rattle.list_tests.specs.Both.{AreBoth}
 
 module _ {S R : Type 0} where
@@ -36,13 +37,13 @@ module _ {S R : Type 0} where
 
 module _ {S R L : Type 0} (t : Table S R) where
   -- the two that were taken from a list of all
-  pub both_taken : (xs ys zs : List (Caller S R L)) (zero one : Caller S R L) → xs ≡ ys ++ one ∷ [] → ys ≡ zs ++ zero ∷ [] → length zs ≡ 0 → AreAllPasses t (passes_of xs) → All (IsResting (λ l inside s v. Unit {0})) xs → AreBoth t zero one
+  pub both_taken : (xs ys zs : List (Caller S R L)) (zero one : Caller S R L) → xs ≡ ys ++ one ∷ [] → ys ≡ zs ++ zero ∷ [] → length zs ≡ 0 → AreAllPasses t (passes_of xs) → All (IsResting IsLocal) xs → AreBoth t zero one
   both_taken xs ys zs zero one last first none all rest =
       let is : xs ≡ zero ∷ one ∷ [] = last ∙ ap (λ (l : List (Caller S R L)). l ++ one ∷ []) (first ∙ ap (λ (l : List (Caller S R L)). l ++ zero ∷ []) (nil_from_length zs none)) in
-      let each = subst (λ (l : List (Caller S R L)). All (IsResting (λ l inside s v. Unit {0})) l) is rest in record {
+      let each = subst (λ (l : List (Caller S R L)). All (IsResting IsLocal) l) is rest in record {
         all = subst (λ (l : List (Caller S R L)). AreAllPasses t (passes_of l)) is all;
-        zero_rests = All-head (IsResting (λ l inside s v. Unit {0})) zero (one ∷ []) each;
-        one_rests = All-head (IsResting (λ l inside s v. Unit {0})) one [] (All-tail (IsResting (λ l inside s v. Unit {0})) zero (one ∷ []) each);
+        zero_rests = All-head (IsResting IsLocal) zero (one ∷ []) each;
+        one_rests = All-head (IsResting IsLocal) one [] (All-tail (IsResting IsLocal) zero (one ∷ []) each);
       }
 
   -- each is a pass of the table
@@ -53,7 +54,7 @@ module _ {S R L : Type 0} (t : Table S R) where
   one_of zero one both = (All-head (IsWholePassOf t) one.pass [] (All-tail (IsWholePassOf t) zero.pass (one.pass ∷ []) both.all.each)).pass
 
   -- and stays it
-  pub both_still : (zero one zero' one' : Caller S R L) → AreBoth t zero one → IsSameCaller zero.pass zero'.pass → IsSameCaller one.pass one'.pass → IsResting (λ l inside s v. Unit {0}) zero' → IsResting (λ l inside s v. Unit {0}) one' → AreBoth t zero' one'
+  pub both_still : (zero one zero' one' : Caller S R L) → AreBoth t zero one → IsSameCaller zero.pass zero'.pass → IsSameCaller one.pass one'.pass → IsResting IsLocal zero' → IsResting IsLocal one' → AreBoth t zero' one'
   both_still zero one zero' one' both a b zero_rests one_rests = let each = both.all.each in record {
     all = record {
       each = All-cons (IsWholePassOf t) zero'.pass (one'.pass ∷ []) (whole_still t zero.pass zero'.pass a (All-head (IsWholePassOf t) zero.pass (one.pass ∷ []) each))

@@ -10,6 +10,7 @@ ghost use Rattle.manager.specs.Made.{passes_of};
 ghost use Rattle.set_calls.specs.Going.{IsSameGuard};
 ghost use Rattle.michael_list.specs.Knowing.{IsSpot};
 ghost use Rattle.list_tests.specs.Both.{AreBoth};
+ghost use Rattle.reclaim_none.specs.Starting.{IsLocal};
 
 use crate::playing::{TestCaller, TestList};
 use alloc_bump::Bump;
@@ -28,7 +29,7 @@ type TestGuard<'a> = Guard<'a, MichaelShape, NoReclaim, Bump, NoPool>;
 // The two callers of a list of one root that has no more.
 fn both(list: &TestList, mut callers: Vec<TestCaller>) -> Option<(TestCaller, TestCaller)>
     requires passes { AreAllPasses list.now.manager.table (passes_of callers.items) }
-    requires resting { All (IsResting (λ l inside s v. Unit {0})) callers.items }
+    requires resting { All (IsResting IsLocal) callers.items }
     ensures both { IfSome result (λ pair. AreBoth list.now.manager.table pair.0 pair.1) }
 {
     let one = callers.pop()?;
@@ -129,10 +130,10 @@ fn insert_between<'a>(
     requires list_roots { (setup_of list.now.manager.table).roots ≡ 1 }
     requires own { IsOwnOf (view guard.old.caller.now.pass) own }
     requires of { IsPassOf list.now.manager.table one.old.pass }
-    requires one { IsResting (λ l inside s v. Unit {0}) one.old }
+    requires one { IsResting IsLocal one.old }
     ensures at_work { IsAtWork guard.new }
     ensures same { IsSameGuard guard.old guard.new }
-    ensures one { IsResting (λ l inside s v. Unit {0}) one.new }
+    ensures one { IsResting IsLocal one.new }
     ensures one_same { IsSameCaller one.old.pass one.new.pass }
 {
     let mut hops = 0;
@@ -182,10 +183,10 @@ fn remove_between<'a>(
     requires roots { (setup_of guard.old.manager.now.table).roots ≡ 1 }
     requires list_roots { (setup_of list.now.manager.table).roots ≡ 1 }
     requires of { IsPassOf list.now.manager.table one.old.pass }
-    requires one { IsResting (λ l inside s v. Unit {0}) one.old }
+    requires one { IsResting IsLocal one.old }
     ensures at_work { IsAtWork guard.new }
     ensures same { IsSameGuard guard.old guard.new }
-    ensures one { IsResting (λ l inside s v. Unit {0}) one.new }
+    ensures one { IsResting IsLocal one.new }
     ensures one_same { IsSameCaller one.old.pass one.new.pass }
 {
     let mut hops = 0;

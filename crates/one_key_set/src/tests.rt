@@ -4,6 +4,7 @@ ghost use Rattle.record_table.specs.Handles.{setup_of, IsPassOf};
 ghost use Rattle.record_table.specs.Closing.{AreAllPasses};
 ghost use Rattle.manager.specs.Callers.{IsResting};
 ghost use Rattle.manager.specs.Made.{passes_of};
+ghost use Rattle.reclaim_none.specs.Starting.{IsLocal};
 
 use crate::answers::Added;
 use crate::calls::{insert, remove, search};
@@ -22,9 +23,9 @@ type KeyCaller = Caller<OneKeyShape, NoReclaim>;
 // The last of these callers, where there is one.
 fn last_caller(manager: &KeyManager, callers: &mut Vec<KeyCaller>) -> Option<KeyCaller>
     requires passes { AreAllPasses manager.now.table (passes_of callers.old.items) }
-    requires resting { All (IsResting (λ l inside s v. Unit {0})) callers.old.items }
+    requires resting { All (IsResting IsLocal) callers.old.items }
     ensures of { IfSome result (λ caller. IsPassOf manager.now.table caller.pass) }
-    ensures caller { IfSome result (λ caller. IsResting (λ l inside s v. Unit {0}) caller) }
+    ensures caller { IfSome result (λ caller. IsResting IsLocal caller) }
 {
     callers.pop()
 }
@@ -32,10 +33,10 @@ fn last_caller(manager: &KeyManager, callers: &mut Vec<KeyCaller>) -> Option<Key
 // Each of these is one operation.
 fn add(manager: &KeyManager, caller: &mut KeyCaller, key: u32, tries: u32) -> Added
     requires of { IsPassOf manager.now.table caller.old.pass }
-    requires caller { IsResting (λ l inside s v. Unit {0}) caller.old }
+    requires caller { IsResting IsLocal caller.old }
     requires key { key < (setup_of manager.now.table).roots }
     ensures of { IsPassOf manager.now.table caller.new.pass }
-    ensures caller { IsResting (λ l inside s v. Unit {0}) caller.new }
+    ensures caller { IsResting IsLocal caller.new }
 {
     let mut guard = manager.begin(caller);
     let answer = insert(&mut guard, key, tries);
@@ -45,10 +46,10 @@ fn add(manager: &KeyManager, caller: &mut KeyCaller, key: u32, tries: u32) -> Ad
 
 fn take(manager: &KeyManager, caller: &mut KeyCaller, key: u32) -> Option<bool>
     requires of { IsPassOf manager.now.table caller.old.pass }
-    requires caller { IsResting (λ l inside s v. Unit {0}) caller.old }
+    requires caller { IsResting IsLocal caller.old }
     requires key { key < (setup_of manager.now.table).roots }
     ensures of { IsPassOf manager.now.table caller.new.pass }
-    ensures caller { IsResting (λ l inside s v. Unit {0}) caller.new }
+    ensures caller { IsResting IsLocal caller.new }
 {
     let mut guard = manager.begin(caller);
     let answer = remove(&mut guard, key, 1);
@@ -58,10 +59,10 @@ fn take(manager: &KeyManager, caller: &mut KeyCaller, key: u32) -> Option<bool>
 
 fn look_for(manager: &KeyManager, caller: &mut KeyCaller, key: u32) -> Option<bool>
     requires of { IsPassOf manager.now.table caller.old.pass }
-    requires caller { IsResting (λ l inside s v. Unit {0}) caller.old }
+    requires caller { IsResting IsLocal caller.old }
     requires key { key < (setup_of manager.now.table).roots }
     ensures of { IsPassOf manager.now.table caller.new.pass }
-    ensures caller { IsResting (λ l inside s v. Unit {0}) caller.new }
+    ensures caller { IsResting IsLocal caller.new }
 {
     let mut guard = manager.begin(caller);
     let answer = search(&mut guard, key, 1);

@@ -19,6 +19,10 @@ pub record IsStarting (inside : Bool) (s v : View) : Type 0 where
   pub made : v.own.guard.start_step ≤ length v.own.steps
   pub behind : IsBehind inside s v
 
+-- the local part is this caller's by that alone
+abbrev pub IsLocal : {L : Type 0} → L → Bool → View → View → Type 0
+IsLocal l inside s v = IsStarting inside s v
+
 -- so it is after steps that leave the guard, or start it
 pub starting_still : (inside : Bool) (s v w : View) → SamePart none v w → IsStarting inside s v → IsStarting inside s w
 starting_still inside s v w same h = record {

@@ -6,7 +6,7 @@ ghost use Rattle.cover_facts.proofs.KeepingLaws.{none_laws};
 ghost use Rattle.reclaim_api.proofs.Kept.{same_adds};
 ghost use Rattle.reclaim_api.specs.LinkLoads.{ReachesByLoad};
 ghost use Rattle.reclaim_none.specs.Running.{Enters, Leaves, Bears, PutsAway};
-ghost use Rattle.reclaim_none.specs.Starting.{IsStarting, starting_still, starting_holds};
+ghost use Rattle.reclaim_none.specs.Starting.{IsLocal, starting_still, starting_holds};
 
 use crate::NoReclaim;
 use reclaim_api::{Follows, Holding, NONE_FREED, Scheme};
@@ -20,7 +20,7 @@ impl Scheme for NoReclaim {
 
     type Local = ();
 
-    ghost is_local = { λ l inside s v. IsStarting inside s v };
+    ghost is_local = { IsLocal };
 
     ghost enters = { Enters };
 

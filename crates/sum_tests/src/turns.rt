@@ -5,6 +5,7 @@ ghost use Rattle.reclaim_api.specs.Guarding.{IsSameCaller};
 ghost use Rattle.record_table.specs.Handles.{IsPassOf};
 ghost use Rattle.manager.specs.Callers.{IsResting};
 ghost use Rattle.manager.specs.Made.{passes_of};
+ghost use Rattle.reclaim_none.specs.Starting.{IsLocal};
 
 use closed_lists::show_lists;
 use key_sums::size_and_sum;
@@ -33,9 +34,9 @@ fn looked(answer: LookAnswer) -> Reply {
 /// Makes the call, with hops without number. A key that is too great is answered `Full`.
 pub fn play_call(list: &TestList, caller: &mut TestCaller, call: Call) -> Reply
     requires of { IsPassOf list.now.manager.table caller.old.pass }
-    requires caller { IsResting (λ l inside s v. Unit {0}) caller.old }
+    requires caller { IsResting IsLocal caller.old }
     ensures of { IsPassOf list.now.manager.table caller.new.pass }
-    ensures caller { IsResting (λ l inside s v. Unit {0}) caller.new }
+    ensures caller { IsResting IsLocal caller.new }
     ensures same { IsSameCaller caller.old.pass caller.new.pass }
 {
     let (Call::Insert(key) | Call::Remove(key) | Call::Search(key)) = call;
@@ -58,9 +59,9 @@ pub fn play_in_turn(
     expected: &[Reply],
 ) -> bool
     requires passes { AreAllPasses list.now.manager.table (passes_of callers.old.items) }
-    requires resting { All (IsResting (λ l inside s v. Unit {0})) callers.old.items }
+    requires resting { All (IsResting IsLocal) callers.old.items }
     ensures passes { AreAllPasses list.now.manager.table (passes_of callers.new.items) }
-    ensures resting { All (IsResting (λ l inside s v. Unit {0})) callers.new.items }
+    ensures resting { All (IsResting IsLocal) callers.new.items }
 {
     let mut turn = 0;
     let mut same = true;
@@ -79,7 +80,7 @@ pub fn play_in_turn(
 /// All callers meet, and the set is closed: how many keys it has, and their sum.
 pub fn close_sums(list: TestList, mut callers: Vec<TestCaller>) -> (u64, u64)
     requires passes { AreAllPasses list.manager.table (passes_of callers.items) }
-    requires resting { All (IsResting (λ l inside s v. Unit {0})) callers.items }
+    requires resting { All (IsResting IsLocal) callers.items }
 {
     list.meet_all(&mut callers);
     let closed = list.close(callers);

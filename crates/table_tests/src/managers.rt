@@ -4,6 +4,7 @@ ghost use Rattle.record_table.specs.Handles.{IsPassOf};
 ghost use Rattle.record_table.specs.Closing.{AreAllPasses};
 ghost use Rattle.manager.specs.Callers.{IsResting};
 ghost use Rattle.manager.specs.Made.{passes_of};
+ghost use Rattle.reclaim_none.specs.Starting.{IsLocal};
 
 use crate::types::MichaelShape;
 use alloc_api::NoRecord;
@@ -21,9 +22,9 @@ type ListCaller = Caller<MichaelShape, NoReclaim>;
 // Takes a record and gives it back, in one operation.
 fn try_record(manager: &ListManager, caller: &mut ListCaller) -> Result<Ref, NoRecord>
     requires of { IsPassOf manager.now.table caller.old.pass }
-    requires caller { IsResting (λ l inside s v. Unit {0}) caller.old }
+    requires caller { IsResting IsLocal caller.old }
     ensures of { IsPassOf manager.now.table caller.new.pass }
-    ensures caller { IsResting (λ l inside s v. Unit {0}) caller.new }
+    ensures caller { IsResting IsLocal caller.new }
 {
     let mut guard = manager.begin(caller);
     let answer = match guard.fresh() {
@@ -41,9 +42,9 @@ fn try_record(manager: &ListManager, caller: &mut ListCaller) -> Result<Ref, NoR
 // The last of these callers, where there is one.
 fn last_caller(manager: &ListManager, callers: &mut Vec<ListCaller>) -> Option<ListCaller>
     requires passes { AreAllPasses manager.now.table (passes_of callers.old.items) }
-    requires resting { All (IsResting (λ l inside s v. Unit {0})) callers.old.items }
+    requires resting { All (IsResting IsLocal) callers.old.items }
     ensures of { IfSome result (λ caller. IsPassOf manager.now.table caller.pass) }
-    ensures caller { IfSome result (λ caller. IsResting (λ l inside s v. Unit {0}) caller) }
+    ensures caller { IfSome result (λ caller. IsResting IsLocal caller) }
 {
     callers.pop()
 }
