@@ -2,3 +2,4 @@ mod Locked
 mod Seeing
 mod Reached
 mod Steps
+mod Placed

@@ -1,5 +1,5 @@
 -- Where an absence is placed that a marked record shows: behind the later of a guard's start and the removal that marked it.
-use Rattle.std.specs.Prelude.{◌≡◌, ℕ, zero, suc, ◌+◌, ◌-◌, ◌<◌, ◌==◌, ◌&&◌, if◌then◌else◌, max, List, [], ◌∷◌, length, take, drop, Bool, true, false, not}
+use Rattle.std.specs.Prelude.{◌≡◌, ℕ, zero, suc, ◌+◌, ◌-◌, ◌<◌, ◌==◌, ◌&&◌, if◌then◌else◌, nat_lt, max, List, [], ◌∷◌, length, take, drop, Bool, true, false, not}
 use Rattle.set_model.specs.declared.calls.Update.{Update}
 use Rattle.set_model.specs.Keys.{contains}
 use Rattle.set_model.specs.Histories.{keys_of}
@@ -21,9 +21,9 @@ abbrev pub first_from : (ℕ → Bool) → ℕ → ℕ → ℕ
 first_from test zero n = n
 first_from test (suc more) n = if test n then n else first_from test more (n + 1)
 
--- the key is absent behind the later of the guard's start and a removal of the other key at this position
+-- the key is absent behind the later of the guard's start and a removal of the other key at this position, which is behind the front
 abbrev pub is_absent_from : View → ℕ → ℕ → ℕ → Bool
-is_absent_from v removed key m = is_removal (drop (m - 1) v.seen_updates) removed && not (contains (keys_of (take (max v.own.guard.start_updates m) v.seen_updates)) key)
+is_absent_from v removed key m = is_removal (drop (m - 1) v.seen_updates) removed && (not (contains (keys_of (take (max v.own.guard.start_updates m) v.seen_updates)) key) && not (nat_lt (max v.own.guard.start_updates m) (length v.front)))
 
 -- the first such place: which of them it is tells nothing, as a caller doesn't know by which removal a record was marked
 abbrev pub place_of : View → ℕ → ℕ → ℕ

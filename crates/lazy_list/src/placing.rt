@@ -22,22 +22,41 @@ use reclaim_api::Scheme;
 use record_table::Node;
 use set_model::Call;
 
-// Places a removal or a search at the position that is computed from the marked node's key.
-fn place_at<'a, R: Scheme, A: Allocator, P: Pool>(
+// Places a removal or a search where its caller's proof says, by the marked node and the key.
+fn place_by<'a, R: Scheme, A: Allocator, P: Pool>(
     guard: &mut Guard<'a, LazyShape, R, A, P>,
     _marked: &Node,
     _key: u64,
     call: Call,
 )
+    ghost position: { ℕ }
     requires at_work { IsAtWork guard.old }
     requires started { HasStarted guard.old.caller.now.pass }
-    requires allowed { MayPlaceIn lazy (view guard.old.caller.now.pass) (place_of (view guard.old.caller.now.pass) (rank guard.old.caller.now.pass _marked.now - 1) _key) call false }
+    requires allowed { MayPlaceIn lazy (view guard.old.caller.now.pass) position call false }
     ensures at_work { IsAtWork guard.new }
     ensures same { IsSameGuard guard.old guard.new }
-    ensures step { (found : ℕ) × (view guard.new.caller.now.pass ≡ placed_view (view guard.old.caller.now.pass) 0 found (place_of (view guard.old.caller.now.pass) (rank guard.old.caller.now.pass _marked.now - 1) _key) call false) }
-    ensures did { Did guard.old (placed call false (place_of (view guard.old.caller.now.pass) (rank guard.old.caller.now.pass _marked.now - 1) _key)) guard.new }
+    ensures step { (found : ℕ) × (view guard.new.caller.now.pass ≡ placed_view (view guard.old.caller.now.pass) 0 found position call false) }
+    ensures did { Did guard.old (placed call false position) guard.new }
 {
     guard.place(call, false);
+}
+
+// Places it at the first place that the marked node's key and the sought one allow.
+fn place_computed<'a, R: Scheme, A: Allocator, P: Pool>(
+    guard: &mut Guard<'a, LazyShape, R, A, P>,
+    marked: &Node,
+    key: u64,
+    call: Call,
+)
+    requires at_work { IsAtWork guard.old }
+    requires started { HasStarted guard.old.caller.now.pass }
+    requires allowed { MayPlaceIn lazy (view guard.old.caller.now.pass) (place_of (view guard.old.caller.now.pass) (rank guard.old.caller.now.pass marked.now - 1) key) call false }
+    ensures at_work { IsAtWork guard.new }
+    ensures same { IsSameGuard guard.old guard.new }
+    ensures step { (found : ℕ) × (view guard.new.caller.now.pass ≡ placed_view (view guard.old.caller.now.pass) 0 found (place_of (view guard.old.caller.now.pass) (rank guard.old.caller.now.pass marked.now - 1) key) call false) }
+    ensures did { Did guard.old (placed call false (place_of (view guard.old.caller.now.pass) (rank guard.old.caller.now.pass marked.now - 1) key)) guard.new }
+{
+    place_by(guard, marked, key, call);
 }
 
 /// Places a removal or a search of `key`, which a marked node showed to be absent: behind the later of the guard's start
@@ -56,5 +75,5 @@ pub fn place_at_mark<'a, R: Scheme, A: Allocator, P: Pool>(
     ensures tells { Read call false (view guard.old.caller.now.pass) (view guard.new.caller.now.pass) }
     ensures did { (m : ℕ) × IsRemovalAt (view guard.old.caller.now.pass).seen_updates m (rank guard.old.caller.now.pass marked.now - 1) × Did guard.old (placed call false (max (view guard.old.caller.now.pass).own.guard.start_updates m)) guard.new }
 {
-    place_at(guard, marked, key, call);
+    place_computed(guard, marked, key, call);
 }
