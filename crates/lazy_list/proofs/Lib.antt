@@ -3,3 +3,6 @@ mod Seeing
 mod Reached
 mod Steps
 mod Placed
+mod Looked
+mod Ends
+mod Lacking

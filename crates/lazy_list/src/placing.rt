@@ -73,6 +73,8 @@ pub fn place_at_mark<'a, R: Scheme, A: Allocator, P: Pool>(
     ensures at_work { IsAtWork guard.new }
     ensures same { IsSameGuard guard.old guard.new }
     ensures tells { Read call false (view guard.old.caller.now.pass) (view guard.new.caller.now.pass) }
+    ensures start { (view guard.new.caller.now.pass).own.guard ≡ (view guard.old.caller.now.pass).own.guard }
+    ensures seen { (view guard.new.caller.now.pass).seen_updates ≡ (view guard.old.caller.now.pass).seen_updates }
     ensures did { (m : ℕ) × IsRemovalAt (view guard.old.caller.now.pass).seen_updates m (rank guard.old.caller.now.pass marked.now - 1) × Did guard.old (placed call false (max (view guard.old.caller.now.pass).own.guard.start_updates m)) guard.new }
 {
     place_computed(guard, marked, key, call);

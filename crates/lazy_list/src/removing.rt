@@ -52,6 +52,8 @@ fn place_absent<'a, R: Follows, A: Allocator, P: Pool>(
     ensures at_work { IsAtWork guard.new }
     ensures same { IsSameGuard guard.old guard.new }
     ensures tells { Read call false (view guard.old.caller.now.pass) (view guard.new.caller.now.pass) }
+    ensures start { (view guard.new.caller.now.pass).own.guard ≡ (view guard.old.caller.now.pass).own.guard }
+    ensures seen { (view guard.new.caller.now.pass).seen_updates ≡ (view guard.old.caller.now.pass).seen_updates }
     ensures did { (shown : ℕ) × IsPlacedBy (view guard.old.caller.now.pass) (rank guard.old.caller.now.pass before.now - 1) (record { flags = flags; target = target_of next.now }) shown × Did guard.old (placed call false shown) guard.new }
 {
     let _leads_to = next;

@@ -1,6 +1,7 @@
-use Rattle.std.proofs.Common.{◌≡◌, ℕ, ◌-◌, false, refl, sym, subst}
+use Rattle.std.proofs.Common.{◌≡◌, ℕ, ◌-◌, false, refl, sym, ap, subst}
 use Rattle.set_model.specs.declared.calls.Call.{Call}
 use Rattle.set_model.specs.Machine.{key_of}
+use Rattle.record_memory.specs.declared.books.View.{View}
 use Rattle.record_table.specs.declared.passes.Pass.{Pass}
 use Rattle.record_table.specs.declared.nodes.Node.{Node}
 use Rattle.record_table.specs.Handles.{view}
@@ -30,3 +31,9 @@ returns-clause-tells g c = let p = c.args.guard.now.caller.now.pass in
 
 pub returns-clause-did : goal.returns-clause-did
 returns-clause-did g c = let p = c.args.guard.now.caller.now.pass in (m p c.args.marked.now c.args.key c.requires.marked, removal_is p c.args.marked.now c.args.key c.requires.marked, c.place_computed.ensures.did)
+
+pub returns-clause-start : goal.returns-clause-start
+returns-clause-start g c = ap (λ (v : View). v.own.guard) c.place_computed.ensures.step.1
+
+pub returns-clause-seen : goal.returns-clause-seen
+returns-clause-seen g c = ap (λ (v : View). v.seen_updates) c.place_computed.ensures.step.1
