@@ -6,3 +6,4 @@ mod Placed
 mod Looked
 mod Ends
 mod Lacking
+mod Inserted

@@ -28,6 +28,11 @@ HasFlags flags = ¬ (flags ≡ 0)
 abbrev pub tries_lock : Node → Option RefParts → Option LinkParts → List Event
 tries_lock node target refusal = exchanged node 3 (link_to target) (locked_to target) None refusal ∷ []
 
+-- what a walk found can't be locked: it has flags, or the try was refused
+pub data FailsToLock (node : Node) : ℕ → Option RefParts → List Event → Type 0 where
+  has_flags : {flags : ℕ} {target : Option RefParts} → HasFlags flags → FailsToLock node flags target []
+  is_another : {target : Option RefParts} (other : LinkParts) → FailsToLock node 0 target (tries_lock node target (Some other))
+
 -- that lock is taken off
 abbrev pub takes_lock_off : Node → Option RefParts → List Event
 takes_lock_off node target = stored_link node 3 (locked_to target) (link_to target) None ∷ []
@@ -49,10 +54,8 @@ module _ (root key : ℕ) where
   pub data FailsToInsert (own : Option RefParts) : Option RefParts → ℕ → List Event → Type 0 where
     is_marked : {hops seen flags low : ℕ} {before : Node} {at : Held} {fs : List Event} (link : LinkParts) (then : ℕ) → Finds key root hops low (Some (Present before flags at)) (Some seen) fs → HasMark link
         → FailsToInsert own own hops (fs ++ looked (At at) 3 link then ∷ [])
-    is_taken : {hops seen flags low : ℕ} {hand : Option RefParts} {r : RefParts} {before : Node} {next : Option Held} {fs gs : List Event} → Finds key root hops low (Some (Absent before flags next)) (Some seen) fs → HasRecord r hand gs → own ≡ Some r → HasFlags flags
-        → FailsToInsert own hand hops (fs ++ gs)
-    is_late : {hops seen low : ℕ} {hand : Option RefParts} {r : RefParts} {before : Node} {next : Option Held} {fs gs : List Event} (other : LinkParts) → Finds key root hops low (Some (Absent before 0 next)) (Some seen) fs → HasRecord r hand gs → own ≡ Some r
-        → FailsToInsert own hand hops (fs ++ gs ++ tries_lock before (target_of next) (Some other))
+    is_late : {hops seen flags low : ℕ} {hand : Option RefParts} {r : RefParts} {before : Node} {next : Option Held} {fs gs ls : List Event} → Finds key root hops low (Some (Absent before flags next)) (Some seen) fs → HasRecord r hand gs → own ≡ Some r → FailsToLock before flags (target_of next) ls
+        → FailsToInsert own hand hops (fs ++ gs ++ ls)
 
   -- tries that failed, after so many hops, and the own record that the call has from them
   pub data Insertings : ℕ → Option RefParts → List Event → Type 0 where

@@ -11,7 +11,7 @@ ghost use Rattle.lazy_list.specs.Knowing.{AnsweredNone};
 ghost use Rattle.lazy_list.specs.Pieces.{Insertings, Inserts};
 ghost use Rattle.lazy_list.specs.Tries.{TriedTells, TriedDoes};
 
-use crate::locking::lock;
+use crate::locking::lock_found;
 use crate::shape::LazyShape;
 use crate::spots::Spot;
 use crate::updating::link_locked;
@@ -23,8 +23,7 @@ use pool::Pool;
 use reclaim_api::Follows;
 use record_memory::LINK;
 use record_table::{Node, Own};
-use row_words::Link;
-use set_calls::{place_seen, same_node};
+use set_calls::{place_seen, same_held};
 use set_model::{Call, InsertAnswer};
 
 /// What one try of an insertion came to.
@@ -64,7 +63,7 @@ fn try_insert<'a, R: Follows, A: Allocator, P: Pool>(
             Tried::Answered(InsertAnswer::Again { hops: *hops })
         }
         Some(Spot::Present { at, .. }) => {
-            let link = guard.load_link(Node::At(at), LINK);
+            let link = guard.load_link(Node::At(same_held(&at)), LINK);
             if link.is_marked() {
                 return Tried::Refused(hand);
             }
@@ -80,7 +79,7 @@ fn try_insert<'a, R: Follows, A: Allocator, P: Pool>(
             },
         ) => match take_record(guard, hand) {
             Ok(own) => {
-                if flags != 0 || !lock(guard, &before, Link::to(target_of(&next))) {
+                if !lock_found(guard, &before, flags, target_of(&next)) {
                     return Tried::Refused(Some(own));
                 }
                 link_locked(guard, root, key, before, next, own);
