@@ -1,5 +1,5 @@
 -- What the steps of an insertion leave.
-use Rattle.std.proofs.Common.{◌≡◌, ◌≤◌, ◌<◌, ◌+◌, ℕ, List, [], ◌∷◌, ◌++◌, append_assoc, Option, Some, None, true, false, refl, sym, ◌∙◌, subst, arith}
+use Rattle.std.proofs.Common.{◌≡◌, ◌≤◌, ◌+◌, ℕ, List, [], ◌∷◌, ◌++◌, append_assoc, Option, Some, None, true, false, refl, sym, ◌∙◌, subst, arith}
 use Rattle.set_model.specs.declared.calls.Call.TheVariants.{Insert}
 use Rattle.set_model.specs.declared.calls.InsertAnswer.TheVariants.{Done, Full, Again}
 use Rattle.record_memory.specs.declared.books.View.{View}

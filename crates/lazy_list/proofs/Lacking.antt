@@ -1,10 +1,10 @@
 -- Where an absence is placed, as the grammar of the calls says it.
-use Rattle.std.proofs.Common.{◌≡◌, ℕ, ◌+◌, ◌-◌, ◌%◌, [], ◌∷◌, ◌++◌, max, List, Option, Some, sym, ap, subst, arith}
+use Rattle.std.proofs.Common.{◌≡◌, ℕ, ◌+◌, ◌-◌, ◌%◌, [], ◌∷◌, ◌++◌, max, List, Option, Some, sym, subst, arith}
 use native.Mathlib.Decide.{ℕ_discrete}
 use Rattle.set_model.specs.declared.calls.Update.{Update}
 use Rattle.record_memory.specs.declared.books.Guard.{Guard}
 use Rattle.row_words.specs.Refs.{LinkParts}
-use Rattle.record_rule.specs.Facts.{mark_bit, HasMark}
+use Rattle.record_rule.specs.Facts.{HasMark}
 use Rattle.record_table.specs.declared.passes.Pass.{Pass}
 use Rattle.record_table.specs.declared.nodes.Held.{Held}
 use Rattle.record_table.specs.declared.nodes.Node.{Node}

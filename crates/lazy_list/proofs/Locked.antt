@@ -4,14 +4,13 @@ use Rattle.set_model.specs.declared.calls.Call.{Call}
 use Rattle.set_model.specs.declared.calls.Call.TheVariants.{Remove}
 use Rattle.record_memory.specs.declared.steps.StepKind.{StepKind}
 use Rattle.record_memory.specs.declared.books.LockedWord.{LockedWord}
-use Rattle.record_memory.specs.declared.books.Note.{Note}
 use Rattle.record_memory.specs.declared.books.Setup.{Setup}
 use Rattle.record_memory.specs.declared.books.View.{View}
 use Rattle.row_words.specs.Refs.{LinkParts}
 use Rattle.row_words.specs.Packing.{link_in, packed_link, IsLink}
 use Rattle.row_words.proofs.Packed.{link_in-packed_link}
 use Rattle.record_rule.specs.Facts.{At as Stands, Near, mark_bit, HasLock, link_at}
-use Rattle.record_rule.specs.Links.{Origin, near_of, note_in, link_word, ExchangedLink, LeftLink, locks_after}
+use Rattle.record_rule.specs.Links.{Origin, near_of, note_in, ExchangedLink, LeftLink, locks_after}
 use Rattle.record_rule.specs.LockedLinks.{IsUnlocked}
 use Rattle.record_rule.proofs.KnownLocks.{locked_then}
 use Rattle.record_table.specs.declared.passes.Pass.{Pass}

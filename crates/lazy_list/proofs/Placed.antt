@@ -1,5 +1,5 @@
 -- The computed place of an absence that a marked node showed is one.
-use Rattle.std.proofs.Common.{◌≡◌, ℕ, zero, suc, ◌+◌, ◌-◌, ◌<◌, ◌≤◌, ◌&&◌, List, [], ◌∷◌, length, length-append, take, drop, max, Bool, true, false, not, cond, eqb, nat_lt, Some, None, sym, refl, ap, ◌∙◌, subst, arith}
+use Rattle.std.proofs.Common.{◌≡◌, ℕ, zero, suc, ◌+◌, ◌-◌, ◌<◌, ◌≤◌, ◌&&◌, List, [], ◌∷◌, length, length-append, take, drop, max, Bool, true, false, not, cond, eqb, nat_lt, sym, refl, ap, ◌∙◌, arith}
 use Rattle.std.proofs.lemmas.Bool.{and_from, not_from_false, eq-eqb, eqb-true, ltb-false, le-ltb}
 use Rattle.std.proofs.lemmas.List.{take-append-le}
 use Rattle.std.proofs.Math.Seq.{take-length}
@@ -8,7 +8,6 @@ use Rattle.set_model.specs.Keys.{contains}
 use Rattle.set_model.specs.Histories.{keys_of}
 use Rattle.record_memory.specs.declared.books.View.{View}
 use Rattle.record_rule.specs.Facts.{At as Stands}
-use Rattle.record_rule.specs.World.{StartsWith}
 use Rattle.record_table.specs.declared.passes.Pass.{Pass}
 use Rattle.record_table.specs.declared.nodes.Node.{Node}
 use Rattle.record_table.specs.Handles.{view}

@@ -1,8 +1,7 @@
 -- What a hop along the list shows: where the record stands that it reached, and that no key stands between its node and that; by the load of the node's link, or, where the node is marked, at its marking.
-use Rattle.std.proofs.Common.{◌≡◌, ◌≢◌, ℕ, ◌+◌, ◌-◌, ◌%◌, ◌<◌, ◌≤◌, List, length, max, take, false, Option, Some, None, MatchOption, sym, refl, ap, ◌∙◌, subst, arith}
+use Rattle.std.proofs.Common.{◌≡◌, ℕ, ◌+◌, ◌-◌, ◌%◌, ◌<◌, ◌≤◌, List, length, max, take, false, Option, Some, None, MatchOption, sym, refl, ap, ◌∙◌, subst, arith}
 use native.Mathlib.Decide.{ℕ_discrete}
 use Rattle.record_memory.specs.declared.books.Setup.{Setup}
-use Rattle.record_memory.specs.declared.books.View.{View}
 use Rattle.row_words.specs.Refs.{LinkParts}
 use Rattle.record_rule.specs.Inputs.{Start}
 use Rattle.record_rule.specs.Facts.{Near, mark_bit, HasMark, link_at, key_at}
@@ -16,7 +15,7 @@ use Rattle.record_table.specs.declared.passes.Pass.{Pass}
 use Rattle.record_table.specs.declared.nodes.Held.{Held}
 use Rattle.record_table.specs.declared.nodes.Node.{Node}
 use Rattle.record_table.specs.declared.nodes.Node.TheVariants.{Root, At}
-use Rattle.record_table.specs.Handles.{view, since}
+use Rattle.record_table.specs.Handles.{view}
 use Rattle.record_table.specs.Nodes.{origin, HasStarted, HoldsThere}
 use Rattle.reclaim_api.specs.declared.following.Reached.{Reached}
 use Rattle.reclaim_api.specs.Following.{HasFollowed, found_link}

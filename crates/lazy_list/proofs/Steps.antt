@@ -1,9 +1,8 @@
 -- From one hop to the next.
-use Rattle.std.proofs.Common.{◌≡◌, ℕ, ◌+◌, ◌<◌, List, ◌++◌, Ok, Err, Some, sym, refl, subst, arith}
+use Rattle.std.proofs.Common.{◌≡◌, ℕ, ◌+◌, List, ◌++◌, Ok, Err, sym, subst}
 use Rattle.record_table.specs.declared.passes.Pass.{Pass}
 use Rattle.record_table.specs.declared.nodes.Node.{Node}
 use Rattle.record_table.specs.declared.nodes.Node.TheVariants.{At}
-use Rattle.record_table.specs.Handles.{view}
 use Rattle.record_pieces.specs.Events.{Event}
 use Rattle.list_calls.specs.Standing.{rank, StandsBefore}
 use Rattle.lazy_list.specs.declared.spots.Spot.{Spot}

@@ -1,5 +1,5 @@
 -- What a step that locks a link, or takes a lock off, leaves.
-use Rattle.std.specs.Prelude.{◌≡◌, ℕ, ◌∷◌, Option, Some}
+use Rattle.std.specs.Prelude.{◌≡◌, ◌∷◌, Option, Some}
 use Rattle.row_words.specs.Refs.{RefParts, LinkParts}
 use Rattle.row_words.specs.Packing.{packed_link}
 use Rattle.record_memory.specs.declared.books.View.{View}

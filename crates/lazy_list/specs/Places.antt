@@ -1,5 +1,5 @@
 -- Where an absence is placed that a marked record shows: behind the later of a guard's start and the removal that marked it.
-use Rattle.std.specs.Prelude.{◌≡◌, ℕ, zero, suc, ◌+◌, ◌-◌, ◌<◌, ◌==◌, ◌&&◌, if◌then◌else◌, nat_lt, max, List, [], ◌∷◌, length, take, drop, Bool, true, false, not}
+use Rattle.std.specs.Prelude.{◌≡◌, ℕ, zero, suc, ◌+◌, ◌-◌, ◌<◌, ◌==◌, ◌&&◌, if◌then◌else◌, nat_lt, max, List, [], ◌∷◌, length, take, drop, Bool, false, not}
 use Rattle.set_model.specs.declared.calls.Update.{Update}
 use Rattle.set_model.specs.Keys.{contains}
 use Rattle.set_model.specs.Histories.{keys_of}

@@ -90,8 +90,15 @@ fn try_insert<'a, R: Follows, A: Allocator, P: Pool>(
     }
 }
 
-// Tries until one is answered.
-pub(crate) fn insert<'a, R: Follows, A: Allocator, P: Pool>(
+/// Adds the key where it is absent. `root` is `key` modulo the number of roots, `key` is below 2^40, and `budget` is how many
+/// hops along the list the call may make. The operation has answered no call, and its caller has no word locked.
+///
+/// It locks the predecessor's link alone, by one exchange, and waits for no lock: where that is refused a new try begins, each
+/// with a walk.
+///
+/// `Done(true)`: it was added. `Done(false)`: it was there. `Full { found }`: it was absent, no record was left, and the one draw
+/// found this. `Again { hops }`: one more hop was needed than the budget.
+pub fn insert<'a, R: Follows, A: Allocator, P: Pool>(
     guard: &mut Guard<'a, LazyShape, R, A, P>,
     root: u32,
     key: u64,

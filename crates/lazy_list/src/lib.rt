@@ -9,14 +9,16 @@
 mod inserting;
 mod locking;
 mod placing;
-mod removing;
+mod searching;
 mod shape;
 mod spots;
 mod updating;
 mod walking;
 
+pub use inserting::insert;
 pub use locking::{lock, unlock};
 pub use placing::place_at_mark;
+pub use searching::{place_absent, search};
 pub use shape::LazyShape;
 pub use spots::{Landing, Spot};
 pub use updating::{link_locked, mark_locked, take_out_locked};

@@ -1,9 +1,8 @@
-use Rattle.std.proofs.Common.{◌≡◌, ◌≤◌, ◌<◌, ◌+◌, List, [], ◌∷◌, ◌++◌, Some, None, sym, true, false, ap, ◌∙◌, subst, arith}
+use Rattle.std.proofs.Common.{[], ◌∷◌, ◌++◌, None, sym, true, false, ◌∙◌, subst}
 use Rattle.set_model.specs.declared.calls.Call.TheVariants.{Insert}
 use Rattle.record_pieces.specs.Events.{Event, looked, placed, refused}
 use Rattle.record_rule.specs.Facts.{HasMark}
 use Rattle.record_rule.specs.Links.{LoadedLink}
-use Rattle.record_table.specs.declared.nodes.Node.{Node}
 use Rattle.record_table.specs.declared.nodes.Node.TheVariants.{At}
 use Rattle.record_table.specs.declared.nodes.Held.{Held}
 use Rattle.record_table.specs.Handles.{view}

@@ -1,4 +1,4 @@
-use Rattle.std.proofs.Common.{◌≡◌, [], ◌∷◌, ℕ, List, Bool, true, false, Option, Some, None, refl, sym, subst}
+use Rattle.std.proofs.Common.{◌≡◌, [], ℕ, List, Bool, true, false, Option, Some, None, refl, sym, subst}
 use Rattle.std.specs.Prelude.{MatchBool}
 use Rattle.row_words.specs.Refs.{RefParts, LinkParts}
 use Rattle.reclaim_api.specs.declared.scheme.Scheme.{Ghosts as OfScheme}

@@ -1,17 +1,11 @@
 use Rattle.std.proofs.Common.{◌≡◌, ◌+◌, Some, [], ◌++◌, sym, refl, ap, ◌∙◌, subst, arith}
-use Rattle.record_memory.specs.declared.books.View.{View}
 use Rattle.record_table.specs.Handles.{view}
-use Rattle.reclaim_api.specs.declared.scheme.Scheme.{Ghosts as OfScheme}
-use Rattle.alloc_api.specs.declared.Allocator.{Ghosts as OfAllocator}
-use Rattle.pool.specs.declared.Pool.{Ghosts as OfPool}
-use Rattle.manager.specs.declared.types.Guard.{Guard}
-use Rattle.set_calls.specs.Going.{GoesOn}
 use Rattle.set_calls.proofs.Going.{goes_nowhere, goes_then, did_then}
 use Rattle.list_calls.specs.Standing.{rank}
 use Rattle.list_calls.proofs.Homes.{home_then, root_there}
 use Rattle.lazy_list.specs.declared.spots.Landing.TheVariants.{Found}
 use Rattle.lazy_list.specs.Walks.{Hops, Finds, starts, found, needs_more}
-use Rattle.lazy_list.specs.Knowing.{AnsweredNone, IsSpot, low_at}
+use Rattle.lazy_list.specs.Knowing.{IsSpot, low_at}
 use Rattle.lazy_list.proofs.Steps.{next_from, ends_at}
 use Rattle.lazy_list.proofs.walking.find.Goals as goal
 

@@ -1,4 +1,4 @@
-use Rattle.std.proofs.Common.{◌≡◌, ℕ, ◌%◌, [], ◌∷◌, Some, None, sym, refl, ap, ◌∙◌, subst, arith}
+use Rattle.std.proofs.Common.{ℕ, ◌%◌, [], ◌∷◌, Some, None, sym, refl, ap, ◌∙◌, subst, arith}
 use Rattle.record_memory.specs.declared.books.Setup.{Setup}
 use Rattle.record_rule.specs.FrozenLinks.{MayFollow, by_walks, by_kept}
 use Rattle.record_table.proofs.Started.{later_load}
@@ -13,12 +13,12 @@ use Rattle.reclaim_api.specs.declared.following.Reached.TheVariants.{Null, Held 
 use Rattle.record_pieces.specs.Events.{Event, followed}
 use Rattle.manager.specs.Guards.{Did}
 use Rattle.set_calls.proofs.Going.{did_one, did_then}
-use Rattle.list_calls.specs.Standing.{StandsAt, StandsBefore, rank}
+use Rattle.list_calls.specs.Standing.{StandsAt, rank}
 use Rattle.lazy_facts.specs.Lazy.{lazy}
 use Rattle.lazy_list.specs.declared.spots.Spot.TheVariants.{Absent}
 use Rattle.lazy_list.specs.declared.spots.Landing.TheVariants.{Found}
 use Rattle.lazy_list.specs.Walks.{Looks, Hops, ends, reaches}
-use Rattle.lazy_list.specs.Knowing.{HasReachedNext, IsLanding, ShowsAbsent}
+use Rattle.lazy_list.specs.Knowing.{HasReachedNext, IsLanding}
 use Rattle.lazy_list.proofs.Reached.{absent_at_end, before_still, low_still, reaches_next}
 use Rattle.lazy_list.proofs.walking.hop.Goals as goal
 

@@ -1,4 +1,4 @@
-use Rattle.std.proofs.Common.{◌≡◌, ℕ, ◌<◌, ◌+◌, [], ◌∷◌, ap, ◌∙◌, arith}
+use Rattle.std.proofs.Common.{◌<◌, ◌+◌, [], ◌∷◌, ap, ◌∙◌, arith}
 use Rattle.record_table.specs.declared.nodes.Node.TheVariants.{At}
 use Rattle.record_pieces.specs.Events.{keyed}
 use Rattle.list_calls.specs.Standing.{rank}

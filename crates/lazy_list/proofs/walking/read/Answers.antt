@@ -1,4 +1,4 @@
-use Rattle.std.proofs.Common.{◌≡◌, ℕ, ◌<◌, ◌+◌, [], ◌∷◌, Some, sym, ap, ◌∙◌, subst, arith}
+use Rattle.std.proofs.Common.{◌+◌, Some, sym, ap, ◌∙◌, subst}
 use Rattle.record_memory.specs.declared.books.View.{View}
 use Rattle.record_rule.specs.Links.{LoadedKey}
 use Rattle.record_table.specs.declared.nodes.Held.{Held}

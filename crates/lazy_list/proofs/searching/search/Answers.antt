@@ -1,8 +1,6 @@
-use Rattle.std.proofs.Common.{◌≡◌, ℕ, ◌+◌, ◌-◌, [], ◌∷◌, ◌++◌, max, List, true, false, None, Some, refl, sym, ap, ◌∙◌, subst, arith}
-use Rattle.set_model.specs.declared.calls.Update.{Update}
+use Rattle.std.proofs.Common.{◌≡◌, [], ◌∷◌, ◌++◌, max, true, false, None, refl, sym, ◌∙◌, subst, arith}
 use Rattle.set_model.specs.declared.calls.Call.TheVariants.{Search}
-use Rattle.set_model.specs.declared.calls.LookAnswer.TheVariants.{Done as Looked, Again as LookAgain}
-use Rattle.record_memory.specs.declared.books.View.{View}
+use Rattle.set_model.specs.declared.calls.LookAnswer.TheVariants.{Again as LookAgain}
 use Rattle.record_pieces.specs.Events.{Event, looked, placed}
 use Rattle.record_table.specs.declared.nodes.Node.{Node}
 use Rattle.record_table.specs.declared.nodes.Node.TheVariants.{At}
@@ -17,13 +15,12 @@ use Rattle.set_calls.proofs.Placed.{may_answer, read_seen}
 use Rattle.set_calls.proofs.Answering.{none_then, read_since}
 use Rattle.list_calls.proofs.Standing.{stands_held}
 use Rattle.lazy_facts.specs.Lazy.{lazy}
-use Rattle.lazy_list.specs.Places.{IsRemovalAt}
-use Rattle.lazy_list.specs.Pieces.{Searches, sees, lacks_it, again, Lacks, by_gap, by_marked_gap, by_mark}
+use Rattle.lazy_list.specs.Pieces.{Searches, sees, lacks_it, again}
 use Rattle.lazy_list.specs.Walks.{Finds}
 use Rattle.lazy_list.proofs.Ends.{is_spot, finds_it}
 use Rattle.lazy_list.proofs.Looked.{present_there, seen_at_mark}
 use Rattle.lazy_list.proofs.Lacking.{gap_lacks, mark_lacks}
-use Rattle.lazy_list.proofs.removing.search.Goals as goal
+use Rattle.lazy_list.proofs.searching.search.Goals as goal
 
 pub place_at_mark-requires-clause-marked : goal.place_at_mark-requires-clause-marked
 place_at_mark-requires-clause-marked g c = let p = c.find.new.guard.caller.now.pass in let q = c.load_link-link.new.self.caller.now.pass in let e = c.load_link-link.ensures in
